@@ -18,10 +18,7 @@ unfolding filled
 regular-at code F reach i h = getD-map-counting (λ j. at (j / F) (j % F)) 0 reach i i (at 0 0) h (omega arith)
 
 pub regular-in-units : (code F reach : ℕ) → InUnitsOf F (regular code F reach)
-regular-in-units code F reach = record {
-  parts = λ _. refl;
-  order = λ i h. regular-at code F reach i (subst (λ n. i < n) (length-filled F reach) h);
-}
+regular-in-units code F reach = record { parts = λ _. refl; order = λ i h. regular-at code F reach i h }
 
 -- a frame is its whole units and its part
 rebuilt : (F i j : ℕ) → i / F ≡ j / F → i % F ≡ j % F → i ≡ j
@@ -29,12 +26,11 @@ rebuilt F i j p q = sym (div-add-mod i F) ∙ (λ t. F * p t + q t) ∙ div-add-
 
 pub regular-lawful : (code F reach : ℕ) → 0 < F → F ≤ 256 → Lawful (regular code F reach)
 regular-lawful code F reach some few = record {
+  long = length-filled F reach;
   single = λ i j hi hj e.
-      let ei = regular-at code F reach i (subst (λ n. i < n) (length-filled F reach) hi) in
-      let ej = regular-at code F reach j (subst (λ n. j < n) (length-filled F reach) hj) in
-      let e′ = sym ei ∙ e ∙ ej in
-      rebuilt F i j (ap (λ a. a .whole) e′) (ap (λ a. a .part) e′);
-  held = λ i h. subst (λ (a : Address). a .part < F) (sym (regular-at code F reach i (subst (λ n. i < n) (length-filled F reach) h))) (mod-lt i some);
+      let e′ = sym (regular-at code F reach i hi) ∙ e ∙ regular-at code F reach j hj in
+      rebuilt F i j (ap (λ (a : Address). a .whole) e′) (ap (λ (a : Address). a .part) e′);
+  held = λ i h. subst (λ (a : Address). a .part < F) (sym (regular-at code F reach i h)) (mod-lt i some);
   some = λ _. some;
   few = λ _. few;
 }

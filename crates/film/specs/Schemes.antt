@@ -2,7 +2,7 @@
 use mathlib.Core.Path.{_≡_}
 use mathlib.Core.Bool.{Bool, _&&_, cond}
 use mathlib.Core.List.{List, [], _∷_, map}
-use Prim.Native.Nat.{ℕ, suc, _/_, _%_, _<_, _≤_}
+use Prim.Native.Nat.{ℕ, suc, _+_, _*_, _/_, _%_, _<_, _≤_}
 use lib.Chars.{codes}
 use lib.Dec.{eqb, leb, ltb}
 use lib.ListN.{length, getD}
@@ -12,10 +12,12 @@ use Rattle.std.specs.declared.option.Option.the-variants.{Some, None}
 use Rattle.film.specs.Refusals.{Answer, given, refuse}
 use Rattle.film.specs.declared.address.Address.{Address}
 
--- the scheme's byte on a slip, how many frames each whole unit holds, and the addresses in frame order
+-- the scheme's byte on a slip, how many frames each whole unit holds, how many frames have an address, and
+-- the addresses in frame order
 pub record SchemeMeaning : Type 0 where
   pub code : ℕ
   pub parts : (whole : ℕ) → ℕ
+  pub reach : ℕ
   pub addresses : List Address
 
 abbrev pub at : ℕ → ℕ → Address
@@ -27,10 +29,12 @@ addressAt m frame = getD (m .addresses) frame (at 0 0)
 
 -- what every scheme owes
 pub record Lawful (m : SchemeMeaning) : Type 0 where
+  -- the list is as long as the scheme reaches
+  pub long : length (m .addresses) ≡ m .reach
   -- no address stands twice
-  pub single : (i j : ℕ) → i < length (m .addresses) → j < length (m .addresses) → addressAt m i ≡ addressAt m j → i ≡ j
+  pub single : (i j : ℕ) → i < m .reach → j < m .reach → addressAt m i ≡ addressAt m j → i ≡ j
   -- an address's part is one that its unit holds
-  pub held : (i : ℕ) → i < length (m .addresses) → addressAt m i .part < m .parts (addressAt m i .whole)
+  pub held : (i : ℕ) → i < m .reach → addressAt m i .part < m .parts (addressAt m i .whole)
   -- a unit holds 1 to 256 frames
   pub some : (whole : ℕ) → 0 < m .parts whole
   pub few : (whole : ℕ) → m .parts whole ≤ 256
@@ -38,14 +42,22 @@ pub record Lawful (m : SchemeMeaning) : Type 0 where
 -- every unit holds F frames, and unit after unit is full
 pub record InUnitsOf (F : ℕ) (m : SchemeMeaning) : Type 0 where
   pub parts : (whole : ℕ) → m .parts whole ≡ F
-  pub order : (i : ℕ) → i < length (m .addresses) → addressAt m i ≡ at (i / F) (i % F)
+  pub order : (i : ℕ) → i < m .reach → addressAt m i ≡ at (i / F) (i % F)
 
 -- the addresses that fill unit after unit with F frames, up to a reach
 unfoldable pub filled : (F reach : ℕ) → List Address
 filled F reach = map (λ i. at (i / F) (i % F)) (counting 0 reach)
 
 abbrev pub regular : (code F reach : ℕ) → SchemeMeaning
-regular code F reach = record { code = code; parts = λ _. F; addresses = filled F reach }
+regular code F reach = record { code = code; parts = λ _. F; reach = reach; addresses = filled F reach }
+
+-- an address's frame where each unit holds F, below an end
+abbrev pub unitFrame : (F end : ℕ) → Address → Answer ℕ
+unitFrame F end a = cond (leb F (a .part)) (refuse 11 2 (codes "A")) (cond (ltb (a .whole * F + a .part) end) (given (a .whole * F + a .part)) (refuse 12 1 (codes "A")))
+
+-- and a frame's address
+abbrev pub unitAddress : (F end frame : ℕ) → Answer Address
+unitAddress F end frame = cond (ltb frame end) (given (at (frame / F) (frame % F))) (refuse 12 1 (codes "A"))
 
 abbrev pub same : Address → Address → Bool
 same a b = eqb (a .whole) (b .whole) && eqb (a .part) (b .part)
@@ -70,7 +82,7 @@ located m N a = cond (leb (m .parts (a .whole)) (a .part)) (refuse 11 2 (codes "
 
 -- address, on a reel of N frames
 unfoldable pub addressed : SchemeMeaning → ℕ → ℕ → Answer Address
-addressed m N frame = cond (ltb frame N && ltb frame (length (m .addresses))) (given (addressAt m frame)) (refuse 12 1 (codes "A"))
+addressed m N frame = cond (ltb frame N && ltb frame (m .reach)) (given (addressAt m frame)) (refuse 12 1 (codes "A"))
 
 -- what locate promises of its answer: it is the definition's, and a frame's one address is found from either side
 pub record Locates (m : SchemeMeaning) (N : ℕ) (a : Address) (answer : Answer ℕ) : Type 0 where

@@ -1,12 +1,14 @@
 // What a way of writing addresses is.
 ghost use mathlib.Core.Path.{_≡_};
-ghost use lib.ListN.{length};
+ghost use Prim.Native.Nat.{ℕ};
 ghost use Rattle.film.specs.Schemes.{SchemeMeaning, Lawful, InUnitsOf};
 
 pub trait Scheme {
     ghost meaning: { Self → SchemeMeaning };
 
     law lawful: { (s : Self) → Lawful (meaning s) };
+
+    law units: { (s : Self) → InUnitsOf (meaning s .parts 0) (meaning s) };
 
     // The byte that names the scheme on a slip.
     const CODE: u8;
@@ -21,8 +23,8 @@ pub trait Scheme {
         ensures { λ r. ⌜ r ≡ meaning (now (self .entry)) .code ⌝ };
 
     fn frames_to_unit(&self) -> u32
-        ensures { λ r. ⌜ InUnitsOf r (meaning (now (self .entry))) ⌝ };
+        ensures { λ r. ⌜ ((whole : ℕ) → meaning (now (self .entry)) .parts whole ≡ r) ⌝ };
 
     fn frames_reached(&self) -> u32
-        ensures { λ r. ⌜ r ≡ length (meaning (now (self .entry)) .addresses) ⌝ };
+        ensures { λ r. ⌜ r ≡ meaning (now (self .entry)) .reach ⌝ };
 }

@@ -1,5 +1,0 @@
-use Rattle.film.proofs.Regular.{regular-in-units}
-use Rattle.film.proofs.schemes.Timecode24Scheme.frames_to_unit.Needs as need
-
-pub returns : need.returns
-returns c = regular-in-units _ _ _
