@@ -85,23 +85,26 @@ onReel-off N None none = refl
 onReel-off N (Some i) none =
     ⊎-elim (λ h. absurd (none i refl h)) (λ h. cond-false _ (given i) _ (le-ltb _ _ h)) (cases-lt i N)
 
+pub located-found : (m : SchemeMeaning) (N : ℕ) (a : Address) (frame : ℕ) → located m N a ≡ given frame → (placeOf a (m .addresses) ≡ Some frame) × (frame < N)
+unfolding located
+located-found m N a frame e =
+    ⊎-elim
+    (λ t.
+    let h = sym (cond-true _ (refuse 11 2 (codes "A")) (onReel N (placeOf a (m .addresses))) t) ∙ e in
+    absurd (let z : _≡_ {A = ℕ} 0 1 = cc in omega arith))
+    (λ t. onReel-given N frame _ (sym (cond-false _ (refuse 11 2 (codes "A")) _ t) ∙ e))
+    (cases-bool (leb (m .parts (a .whole)) (a .part)))
+
 module _ (m : SchemeMeaning) (law : Lawful m) (N : ℕ) where
   -- the frame is the reel's, and has the address
   abbrev Has : Address → ℕ → Type 0
   Has a frame = (frame < N) × (frame < m .reach) × (addressAt m frame ≡ a)
 
   located-has : (a : Address) (frame : ℕ) → located m N a ≡ given frame → Has a frame
-  unfolding located
   located-has a frame e =
-      ⊎-elim
-      (λ t.
-      let h = sym (cond-true _ (refuse 11 2 (codes "A")) (onReel N (placeOf a (m .addresses))) t) ∙ e in
-      absurd (let z : _≡_ {A = ℕ} 0 1 = cc in omega arith))
-      (λ t.
-      let h = onReel-given N frame _ (sym (cond-false _ (refuse 11 2 (codes "A")) _ t) ∙ e) in
+      let h = located-found m N a frame e in
       let s = placeOf-stands a (m .addresses) frame (h .0) in
-      (h .1, omega (arith, s .0, law .long), s .1))
-      (cases-bool (leb (m .parts (a .whole)) (a .part)))
+      (h .1, omega (arith, s .0, law .long), s .1)
 
   has-located : (a : Address) (frame : ℕ) → Has a frame → located m N a ≡ given frame
   unfolding located

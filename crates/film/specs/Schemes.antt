@@ -51,6 +51,16 @@ filled F reach = map (λ i. at (i / F) (i % F)) (counting 0 reach)
 abbrev pub regular : (code F reach : ℕ) → SchemeMeaning
 regular code F reach = record { code = code; parts = λ _. F; reach = reach; addresses = filled F reach }
 
+-- 35 mm film and 16 mm film by feet and frames, and timecode at 24 frames a second over a day
+abbrev pub feet35 : SchemeMeaning
+feet35 = regular 1 16 1000000
+
+abbrev pub feet16 : SchemeMeaning
+feet16 = regular 2 40 1000000
+
+abbrev pub timecode24 : SchemeMeaning
+timecode24 = regular 3 24 2073600
+
 -- an address's frame where each unit holds F, below an end
 abbrev pub unitFrame : (F end : ℕ) → Address → Answer ℕ
 unitFrame F end a = cond (leb F (a .part)) (refuse 11 2 (codes "A")) (cond (ltb (a .whole * F + a .part) end) (given (a .whole * F + a .part)) (refuse 12 1 (codes "A")))

@@ -1,5 +1,5 @@
 // The three schemes in use.
-ghost use Rattle.film.specs.Schemes.{regular};
+ghost use Rattle.film.specs.Schemes.{feet35, feet16, timecode24};
 use crate::scheme::Scheme;
 
 // 35 mm film: feet and frames, four perforations to the frame.
@@ -7,7 +7,7 @@ use crate::scheme::Scheme;
 pub struct Feet35;
 
 pub impl Scheme for Feet35 as Feet35Scheme {
-    ghost meaning = { λ _. regular 1 16 1000000 };
+    ghost meaning = { λ _. feet35 };
 
     const CODE: u8 = 1;
 
@@ -33,7 +33,7 @@ pub impl Scheme for Feet35 as Feet35Scheme {
 pub struct Feet16;
 
 pub impl Scheme for Feet16 as Feet16Scheme {
-    ghost meaning = { λ _. regular 2 40 1000000 };
+    ghost meaning = { λ _. feet16 };
 
     const CODE: u8 = 2;
 
@@ -59,7 +59,7 @@ pub impl Scheme for Feet16 as Feet16Scheme {
 pub struct Timecode24;
 
 pub impl Scheme for Timecode24 as Timecode24Scheme {
-    ghost meaning = { λ _. regular 3 24 2073600 };
+    ghost meaning = { λ _. timecode24 };
 
     const CODE: u8 = 3;
 
