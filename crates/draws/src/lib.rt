@@ -1,0 +1,5 @@
+// Draw rules: which lists of frames each allows, and how many ways lead on.
+pub mod entry;
+pub mod rule;
+#[cfg(test)]
+mod tests;

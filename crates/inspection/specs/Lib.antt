@@ -1,0 +1,7 @@
+pub mod Tables
+pub mod Settling
+pub mod Answers
+pub mod Runs
+pub mod Views
+pub mod Faults
+pub mod Readings

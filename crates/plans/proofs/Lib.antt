@@ -1,0 +1,16 @@
+pub mod Rounding
+pub mod Sums
+pub mod Widths
+pub mod Counts
+pub mod Rulings
+pub mod Cells
+pub mod Steps
+pub mod Enclosing
+pub mod Spread
+pub mod Bounds
+pub mod Enclosed
+pub mod Limited
+pub mod Agreed
+pub mod Fewer
+pub mod Exactly
+pub mod Worked

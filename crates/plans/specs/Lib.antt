@@ -1,0 +1,10 @@
+pub mod Plans
+pub mod Standings
+pub mod Exact
+pub mod Working
+pub mod Enclosure
+pub mod Limits
+pub mod ChanceFaults
+pub mod Faults
+pub mod Makes
+pub mod Examples

@@ -1,0 +1,5 @@
+pub mod Certified
+pub mod Certifies
+pub mod Chances
+pub mod Rows
+pub mod Searches

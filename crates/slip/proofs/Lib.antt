@@ -1,0 +1,5 @@
+pub mod Joins
+pub mod Turns
+pub mod Addressing
+pub mod Counted
+pub mod Written
