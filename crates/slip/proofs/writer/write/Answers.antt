@@ -32,17 +32,17 @@ returns-in-Break-report g c =
     let p = err-from-errBy (c .from-residual .result) (c .from-residual .ensures .1) in
     let answer : reading slipRefusal (c .from-residual .result) ≡ _ = ap (λ (r : Result ℕ SlipFault). reading slipRefusal r) (p .1) ∙ ap (λ (fault : SlipFault). refused (slipRefusal fault)) (p .2) in
     let W : Answer ℕ → Type 0 = λ answer. Writes rule s (heldOf i) (c .args .table .now) (c .args .buffer .now) answer (c .args .buffer .now) in
-    subst W (sym answer) (short-table rule s (heldOf i) (c .args .table .now) (c .args .buffer .now) (inspectionRefusal (c .in-Break-report .field-0 .0)) (c .in-Break-report .ensures tt .value))
+    subst W (sym answer) (short-table rule s (heldOf i) (c .args .table .now) (c .args .buffer .now) (inspectionRefusal (c .in-Break-report .field-0 .0)) (c .in-Break-report .ensures tt .answer .value))
 
 pub mul-needed : need.mul-needed
 mul-needed g c =
-    let k = known (c .args .inspection .now) (c .args .table .now) (c .in-Continue-report .report) (c .in-Continue-report .ensures tt .value) in
+    let k = known (c .args .inspection .now) (c .args .table .now) (c .in-Continue-report .report) (c .in-Continue-report .ensures tt .answer .value) in
     let small : c .in-Continue-report .report .counts .bad ≤ 32768 = k .few .bad in
     search needs
 
 pub add-needed : need.add-needed
 add-needed g c =
-    let k = known (c .args .inspection .now) (c .args .table .now) (c .in-Continue-report .report) (c .in-Continue-report .ensures tt .value) in
+    let k = known (c .args .inspection .now) (c .args .table .now) (c .in-Continue-report .report) (c .in-Continue-report .ensures tt .answer .value) in
     let small : c .in-Continue-report .report .counts .bad ≤ 32768 = k .few .bad in
     search needs
 
@@ -51,12 +51,12 @@ returns-then-buffer-needed g c =
     let i = c .args .inspection .now in
     let rule = g .R·DrawRule .meaning (ruleOf i) .code in
     let s = g .S·Scheme .meaning (c .args .scheme .now) in
-    let k = known i (c .args .table .now) (c .in-Continue-report .report) (c .in-Continue-report .ensures tt .value) in
+    let k = known i (c .args .table .now) (c .in-Continue-report .report) (c .in-Continue-report .ensures tt .answer .value) in
     short-buffer rule s (heldOf i) (c .args .table .now) (c .args .buffer .now) (74 + 9 * c .in-Continue-report .report .counts .bad) (k .long) (k .needed rule s) (c .if-buffer-needed .taken)
 
 pub part-pulled-end : need.part-pulled-end
 part-pulled-end g c =
-    let k = known (c .args .inspection .now) (c .args .table .now) (c .in-Continue-report .report) (c .in-Continue-report .ensures tt .value) in
+    let k = known (c .args .inspection .now) (c .args .table .now) (c .in-Continue-report .report) (c .in-Continue-report .ensures tt .answer .value) in
     let inside : c .in-Continue-report .report .counts .pulled ≤ length (c .args .table .now) = k .inside in
     search needs
 
@@ -69,7 +69,7 @@ returns-in-Break-check-addresses g c =
     let buffer = c .args .buffer .now in
     let report = c .in-Continue-report .report in
     let fault = c .in-Break-check-addresses .field-0 .0 in
-    let k = known i table report (c .in-Continue-report .ensures tt .value) in
+    let k = known i table report (c .in-Continue-report .ensures tt .answer .value) in
     let reel : c .reel-reel .result ≡ heldOf i .terms .N = c .reel-reel .ensures ∙ ap (λ (p : Certified _). p .reel) (c .certified-certified .ensures) in
     let first : reading {A = Unit {0}} refusalOf (Err fault) ≡ allAddressed s (c .reel-reel .result) (badFrames (take (report .counts .pulled - 0) table)) = c .in-Break-check-addresses .ensures tt in
     let none : refused (refusalOf fault) ≡ allAddressed s (heldOf i .terms .N) (badFramesOf (heldOf i) table) =
@@ -84,7 +84,7 @@ returns-in-Break-check-addresses g c =
 
 pub put-head-end-requires : need.put-head-end-requires
 put-head-end-requires g c κs =
-    let k = known (c .args .inspection .now) (c .args .table .now) (c .in-Continue-report .report) (c .in-Continue-report .ensures tt .value) in
+    let k = known (c .args .inspection .now) (c .args .table .now) (c .in-Continue-report .report) (c .in-Continue-report .ensures tt .answer .value) in
     record { room = omega (arith, c .if-buffer-needed .left); few = k .few }
 
 pub put-bad-frames-requires : need.put-bad-frames-requires
@@ -92,7 +92,7 @@ put-bad-frames-requires g c κs =
     let i = c .args .inspection .now in
     let rule = g .R·DrawRule .meaning (ruleOf i) .code in
     let s = g .S·Scheme .meaning (c .args .scheme .now) in
-    let k = known i (c .args .table .now) (c .in-Continue-report .report) (c .in-Continue-report .ensures tt .value) in
+    let k = known i (c .args .table .now) (c .in-Continue-report .report) (c .in-Continue-report .ensures tt .answer .value) in
     record {
       room = omega (arith, k .room rule s, k .needed rule s, c .if-buffer-needed .left, c .put-head-end .ensures .ends, c .put-head-end .kept .buffer);
       addressed = sym (c .in-Continue-check-addresses .ensures tt);
@@ -106,7 +106,7 @@ returns g c =
     let table = c .args .table .now in
     let buffer = c .args .buffer .now in
     let report = c .in-Continue-report .report in
-    let k = known i table report (c .in-Continue-report .ensures tt .value) in
+    let k = known i table report (c .in-Continue-report .ensures tt .answer .value) in
     let reel : c .reel-reel .result ≡ heldOf i .terms .N = c .reel-reel .ensures ∙ ap (λ (p : Certified _). p .reel) (c .certified-certified .ensures) in
     let code : c .code-rule .result ≡ rule = c .code-rule .ensures ∙ ap (λ (r : g .R .Denot). g .R·DrawRule .meaning r .code) (c .rule .ensures ∙ ap (λ (p : Certified _). p .rule) (c .certified-certified .ensures)) in
     let first : given tt ≡ allAddressed s (c .reel-reel .result) (badFrames (take (report .counts .pulled - 0) table)) = c .in-Continue-check-addresses .ensures tt in

@@ -1,0 +1,5 @@
+pub mod Letters
+pub mod Joins
+pub mod Texts
+pub mod Provings
+pub mod Viewings
