@@ -3,3 +3,5 @@ pub mod Joins
 pub mod Texts
 pub mod Provings
 pub mod Viewings
+pub mod Slips
+pub mod Begun

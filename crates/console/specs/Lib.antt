@@ -6,3 +6,4 @@ pub mod Faults
 pub mod Readings
 pub mod Begins
 pub mod Views
+pub mod Phases

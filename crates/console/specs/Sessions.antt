@@ -94,14 +94,20 @@ noteStep line number N rule (noted other M before) table = step (noted number N 
 noteStep line number N rule (opened before h) table = step (opened before h) table (no (outOfTurn line))
 
 -- p
+abbrev pub enclosedBy : Held → Reply
+enclosedBy h = bounds (h .terms .lo) (h .terms .hi)
+
 abbrev pub beginStep : (number N : ℕ) → RuleName → List Entry → Answer Held → Step
-beginStep number N rule table (given h) = step (opened rule h) (openTable table (given h)) (bounds (h .terms .lo) (h .terms .hi))
+beginStep number N rule table (given h) = step (opened rule h) (openTable table (given h)) (enclosedBy h)
 beginStep number N rule table (refused r) = step (noted number N rule) table (no (passedOn r))
+
+abbrev pub notedStep : (number N : ℕ) → RuleName → List ℕ → List Entry → Step
+notedStep number N rule ns table =
+    beginStep number N rule table (beginAnswer (ruleOf rule) number N (getD ns 0 0) (getD ns 1 0) (getD ns 2 0) (getD ns 3 0) (getD ns 4 0) (getD ns 5 0) (getD ns 6 0) 256 256 table)
 
 abbrev pub planStep : (line : ℕ) → List ℕ → Phase → List Entry → Step
 planStep line ns begun table = step begun table (no (outOfTurn line))
-planStep line ns (noted number N rule) table =
-    beginStep number N rule table (beginAnswer (ruleOf rule) number N (getD ns 0 0) (getD ns 1 0) (getD ns 2 0) (getD ns 3 0) (getD ns 4 0) (getD ns 5 0) (getD ns 6 0) 256 256 table)
+planStep line ns (noted number N rule) table = notedStep number N rule ns table
 planStep line ns (opened rule h) table = step (opened rule h) table (no (outOfTurn line))
 
 -- f: the frame is pulled, marked at once with the ticket that the pull answered, and the standing asked for

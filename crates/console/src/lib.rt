@@ -3,6 +3,7 @@
 pub mod begin;
 pub mod fault;
 mod hex;
+mod phase;
 pub mod reader;
 pub mod reply;
 pub mod request;
