@@ -1,7 +1,8 @@
 -- What the program's own phase says. Assumes nothing.
 use mathlib.Core.List.{List}
 use Prim.Native.Nat.{ℕ}
-use lib.ListN.{take}
+use mathlib.Core.Path.{_≡_}
+use lib.ListN.{length, take}
 use Rattle.film.specs.Refusals.{Answer, given, refused}
 use Rattle.inspection.specs.Readings.{heldOf}
 use Rattle.console.specs.Sessions as sessions
@@ -19,3 +20,9 @@ phaseOf (With inspection) = sessions.opened WithName (heldOf inspection)
 abbrev pub writtenReply : (buffer : List ℕ) → Answer ℕ → sessions.Reply
 writtenReply buffer (given end) = sessions.wrote (take end buffer)
 writtenReply buffer (refused r) = sessions.no (sessions.passedOn r)
+
+-- the memory that a session lends: 256 cells a row and 40,000 bytes for a slip
+pub record Prepared (low high buffer : List ℕ) : Type 0 where
+  pub low-cells : length low ≡ 256
+  pub high-cells : length high ≡ 256
+  pub bytes : length buffer ≡ 40000

@@ -84,8 +84,11 @@ pub record Step : Type 0 where
   pub session : Session
   pub reply : Reply
 
+abbrev pub session : Phase → List Entry → Session
+session phase table = record { phase = phase; table = table }
+
 abbrev pub step : Phase → List Entry → Reply → Step
-step phase table reply = record { session = record { phase = phase; table = table }; reply = reply }
+step phase table reply = record { session = session phase table; reply = reply }
 
 -- r
 abbrev pub noteStep : (line number N : ℕ) → RuleName → Phase → List Entry → Step

@@ -7,4 +7,5 @@ mod phase;
 pub mod reader;
 pub mod reply;
 pub mod request;
+mod session;
 mod view;

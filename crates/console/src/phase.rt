@@ -1,5 +1,5 @@
 // How far a session has come, and what a line does to it.
-ghost use mathlib.Core.List.{List, []};
+ghost use mathlib.Core.List.{List};
 ghost use mathlib.Core.Path.{_≡_};
 ghost use lib.ListN.{length};
 ghost use Rattle.draws.specs.declared.entry.Entry.{Entry as TableEntry};
@@ -51,16 +51,25 @@ pub enum Phase {
 }
 
 // A reel is noted until a plan is opened on it.
-pub fn note(phase: &mut Phase, line: u32, number: u32, frames: u32, rule: RuleName) -> Reply
-    ensures { λ r. ⌜ ((table : List TableEntry) → step (phaseOf (now (phase .exit))) table (replyOf r []) ≡ noteStep line number frames rule (phaseOf (now (phase .entry))) table) ⌝ }
+pub fn note(
+    phase: Phase,
+    line: u32,
+    number: u32,
+    frames: u32,
+    rule: RuleName,
+) -> (Phase, Reply)
+    ensures { λ r. ⌜ ((table : List TableEntry) (buffer : List ℕ) → step (phaseOf (r .0)) table (replyOf (r .1) buffer) ≡ noteStep line number frames rule (phaseOf phase) table) ⌝ }
 {
     match phase {
-        Phase::Without(_) => Reply::No(ConsoleFault::OutOfTurn(line)),
-        Phase::With(_) => Reply::No(ConsoleFault::OutOfTurn(line)),
-        _ => {
-            *phase = Phase::Noted(number, frames, rule);
-            Reply::Fine
-        }
+        Phase::Without(inspection) => (
+            Phase::Without(inspection),
+            Reply::No(ConsoleFault::OutOfTurn(line)),
+        ),
+        Phase::With(inspection) => (
+            Phase::With(inspection),
+            Reply::No(ConsoleFault::OutOfTurn(line)),
+        ),
+        _ => (Phase::Noted(number, frames, rule), Reply::Fine),
     }
 }
 
@@ -74,7 +83,7 @@ pub fn begin_plan(
     table: &mut [Entry],
 ) -> (Phase, Reply)
     requires { ⌜ length (now low) ≡ 256 ⌝ ∗ ⌜ length (now high) ≡ 256 ⌝ }
-    ensures { λ r. ⌜ step (phaseOf (r .0)) (now (table .exit)) (replyOf (r .1) []) ≡ planStep line numbers (phaseOf phase) (now (table .entry)) ⌝ }
+    ensures { λ r. ⌜ ((buffer : List ℕ) → step (phaseOf (r .0)) (now (table .exit)) (replyOf (r .1) buffer) ≡ planStep line numbers (phaseOf phase) (now (table .entry))) ⌝ }
 {
     match phase {
         Phase::Noted(number, reel, rule) => {
@@ -94,7 +103,7 @@ fn begin_noted(
     table: &mut [Entry],
 ) -> (Phase, Reply)
     requires { ⌜ length (now low) ≡ 256 ⌝ ∗ ⌜ length (now high) ≡ 256 ⌝ }
-    ensures { λ r. ⌜ step (phaseOf (r .0)) (now (table .exit)) (replyOf (r .1) []) ≡ notedStep number reel rule numbers (now (table .entry)) ⌝ }
+    ensures { λ r. ⌜ ((buffer : List ℕ) → step (phaseOf (r .0)) (now (table .exit)) (replyOf (r .1) buffer) ≡ notedStep number reel rule numbers (now (table .entry))) ⌝ }
 {
     let [n1, ac1, re1, n2, ac2, tolerance, limit] = numbers;
     let terms = Terms {
@@ -129,7 +138,7 @@ fn begin_noted(
 
 // The ends of the enclosure of an opened plan.
 fn bounds<R>(inspection: &Inspection<R>) -> Reply
-    ensures { λ r. ⌜ replyOf r [] ≡ enclosedBy (heldOf (now (inspection .entry))) ⌝ }
+    ensures { λ r. ⌜ ((buffer : List ℕ) → replyOf r buffer ≡ enclosedBy (heldOf (now (inspection .entry)))) ⌝ }
 {
     let certified = inspection.certified();
     Reply::Bounds(certified.lo(), certified.hi())
@@ -144,7 +153,7 @@ pub fn view_frame(
     mark: Mark,
     table: &mut [Entry],
 ) -> (Phase, Reply)
-    ensures { λ r. ⌜ step (phaseOf (r .0)) (now (table .exit)) (replyOf (r .1) []) ≡ frameStep line scheme address mark (phaseOf phase) (now (table .entry)) ⌝ }
+    ensures { λ r. ⌜ ((buffer : List ℕ) → step (phaseOf (r .0)) (now (table .exit)) (replyOf (r .1) buffer) ≡ frameStep line scheme address mark (phaseOf phase) (now (table .entry))) ⌝ }
 {
     match phase {
         Phase::Without(mut inspection) => {
@@ -160,7 +169,7 @@ pub fn view_frame(
 }
 
 fn view_reply(viewed: Result<u8, InspectionFault>) -> Reply
-    ensures { λ r. ⌜ replyOf r [] ≡ codeReply (reading inspectionRefusal viewed) ⌝ }
+    ensures { λ r. ⌜ ((buffer : List ℕ) → replyOf r buffer ≡ codeReply (reading inspectionRefusal viewed)) ⌝ }
 {
     match viewed {
         Ok(code) => Reply::Stands(code),
