@@ -5,3 +5,5 @@ pub mod Provings
 pub mod Viewings
 pub mod Slips
 pub mod Begun
+pub mod Turns
+pub mod Outputs

@@ -7,5 +7,5 @@ mod phase;
 pub mod reader;
 pub mod reply;
 pub mod request;
-mod session;
+pub mod session;
 mod view;
