@@ -8,4 +8,6 @@ pub mod reader;
 pub mod reply;
 pub mod request;
 pub mod session;
+#[cfg(test)]
+mod tests;
 mod view;

@@ -23,11 +23,11 @@ use crate::request::RuleName;
 use crate::request::SchemeName;
 use crate::view::view;
 use draws::entry::Entry;
+use draws::rule::DrawRule;
 use draws::rule::WithReplacement;
 use draws::rule::WithReplacementRule;
 use draws::rule::WithoutReplacement;
 use draws::rule::WithoutReplacementRule;
-use draws::rule::DrawRule;
 use film::address::Address;
 use film::schemes::Feet16;
 use film::schemes::Feet16Scheme;
@@ -51,13 +51,7 @@ pub enum Phase {
 }
 
 // A reel is noted until a plan is opened on it.
-pub fn note(
-    phase: Phase,
-    line: u32,
-    number: u32,
-    frames: u32,
-    rule: RuleName,
-) -> (Phase, Reply)
+pub fn note(phase: Phase, line: u32, number: u32, frames: u32, rule: RuleName) -> (Phase, Reply)
     ensures { λ r. ⌜ ((table : List TableEntry) (buffer : List ℕ) → step (phaseOf (r .0)) table (replyOf (r .1) buffer) ≡ noteStep line number frames rule (phaseOf phase) table) ⌝ }
 {
     match phase {
@@ -204,7 +198,12 @@ fn slip_reply(written: Result<usize, SlipFault>) -> Reply
     }
 }
 
-fn write_in<R: DrawRule>(inspection: &Inspection<R>, scheme: SchemeName, table: &[Entry], buffer: &mut [u8]) -> Result<usize, SlipFault>
+fn write_in<R: DrawRule>(
+    inspection: &Inspection<R>,
+    scheme: SchemeName,
+    table: &[Entry],
+    buffer: &mut [u8],
+) -> Result<usize, SlipFault>
     ensures { λ r. ⌜ Writes (R·DrawRule .meaning (ruleOf (now (inspection .entry))) .code) (schemeOf scheme) (heldOf (now (inspection .entry))) (now (table .entry)) (now (buffer .entry)) (reading slipRefusal r) (now (buffer .exit)) ⌝ }
 {
     match scheme {

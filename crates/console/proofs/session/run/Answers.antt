@@ -40,7 +40,7 @@ pub returns : need.returns
 returns c =
     made-weaker (c .answer-all .result) _ _
     (λ out e. e ∙
-        whole-output (c .args .input .now) (c .as-mut-slice-3 .result .now) (map now (c .as-slice .result .now)) (c .if-input-gt-MOST-BYTES .left)
-        (c .as-mut-slice-3 .ensures .value ∙ c .in-Continue-table .ensures tt .exact (λ y h. h))
-        (ap (map now) (c .as-slice .ensures .value) ∙ c .in-Continue-lines .ensures tt))
+    whole-output (c .args .input .now) (c .as-mut-slice-3 .result .now) (map now (c .as-slice .result .now)) (c .if-input-gt-MOST-BYTES .left)
+    (c .as-mut-slice-3 .ensures .value ∙ c .in-Continue-table .ensures tt .exact (λ y h. h))
+    (ap (map now) (c .as-slice .ensures .value) ∙ c .in-Continue-lines .ensures tt))
     (c .answer-all .ensures)
