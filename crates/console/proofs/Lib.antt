@@ -7,3 +7,4 @@ pub mod Slips
 pub mod Begun
 pub mod Turns
 pub mod Outputs
+pub mod Values

@@ -7,3 +7,4 @@ pub mod Readings
 pub mod Begins
 pub mod Views
 pub mod Phases
+pub mod Worked

@@ -11,3 +11,4 @@ pub mod session;
 #[cfg(test)]
 mod tests;
 mod view;
+pub mod worked;
