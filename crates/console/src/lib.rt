@@ -1,4 +1,5 @@
 // Lines in, answers out.
+#![tactic(auto)]
 
 pub mod begin;
 pub mod fault;

@@ -1,5 +1,5 @@
 -- A survey with one line more. Assumes nothing.
-use Rattle.std.proofs.Common.{◌≡◌, ℕ, ◌+◌, ◌<◌, ◌≤◌, Bool, true, false, cond, not, eqb, List, [], ◌∷◌, ◌++◌, map, length, get_or, take, is_some, Some, None, count_by, Option, sym, refl, ap, ◌∙◌, subst, append_assoc, append-nil, add-zero, arith, MutBor}
+use Rattle.std.proofs.Common.{◌≡◌, ℕ, ◌+◌, ◌<◌, ◌≤◌, Bool, true, false, cond, not, eqb, List, [], ◌∷◌, ◌++◌, map, length, get_or, take, is_some, Some, None, count_by, Option, sym, refl, ap, ◌∙◌, subst, append_assoc, append-nil, add-zero, arith, Bor}
 use Rattle.std.proofs.lemmas.List.{map_push, map_more}
 use Rattle.std.proofs.lemmas.List.Sums.{sum_by_push}
 use Rattle.std.proofs.lemmas.Bool.{cond_both}
@@ -90,15 +90,15 @@ pub line_below : (N : ℕ) (line : List ℕ) → Below N (name_of N line)
 line_below N line = named_below N (numbers_of 3 (Some line))
 
 -- the lines as they lie in memory
-abbrev pub names_of : ℕ → List (MutBor (List ℕ)) → List Naming
-names_of N lines = map (λ (t : MutBor (List ℕ)). name_of N t.now) lines
+abbrev pub names_of : ℕ → List (Bor (List ℕ)) → List Naming
+names_of N lines = map (λ (t : Bor (List ℕ)). name_of N t.now) lines
 
-pub line_more : (N : ℕ) (lines : List (MutBor (List ℕ))) (i : ℕ) (d : MutBor (List ℕ)) (seen : List Seen) (t after : Tally) (s : Seen) (new : Bool)
+pub line_more : (N : ℕ) (lines : List (Bor (List ℕ))) (i : ℕ) (d : Bor (List ℕ)) (seen : List Seen) (t after : Tally) (s : Seen) (new : Bool)
     → i < length lines → Surveys N (names_of N (take i lines)) seen t → naming s.row ≡ name_of N (get_or lines i d).now
     → s.earlier ≡ earlier (naming s.row) (map (λ (x : Seen). naming x.row) seen) → is_some s.earlier ≡ not new → Counted t (naming s.row) new after
     → Surveys N (names_of N (take (i + 1) lines)) (seen ++ s ∷ []) after
 line_more N lines i d seen t after s new l so row e is c =
     let below = subst (Below N) (sym row) (line_below N (get_or lines i d).now) in
-    let more = map_more (λ (t : MutBor (List ℕ)). name_of N t.now) lines i d l ∙ ap (λ n. names_of N (take i lines) ++ n ∷ []) (sym row) in
+    let more = map_more (λ (t : Bor (List ℕ)). name_of N t.now) lines i d l ∙ ap (λ n. names_of N (take i lines) ++ n ∷ []) (sym row) in
     subst (λ ns. Surveys N ns (seen ++ s ∷ []) after) (sym more)
     (surveys_more N (names_of N (take i lines)) seen t after s new so below (e ∙ ap (earlier (naming s.row)) so.rows) is c)

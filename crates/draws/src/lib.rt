@@ -1,4 +1,6 @@
 // Draw rules: which lists of frames each allows, and how many ways lead on.
+#![tactic(auto)]
+
 pub mod entry;
 pub mod rule;
 #[cfg(test)]

@@ -1,4 +1,5 @@
 // One address for every frame of a scanned reel, in each scheme that archives write.
+#![tactic(auto)]
 
 pub mod address;
 pub mod lookup;

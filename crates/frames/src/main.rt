@@ -1,4 +1,6 @@
 // Reads a draw list in mixed schemes and says which frames it names, and which lines name one again.
+#![tactic(auto)]
+
 ghost use Rattle.std.specs.Prelude.{◌≡◌};
 ghost use Rattle.frames.specs.Reels.{reel_size};
 

@@ -1,4 +1,6 @@
 // The inspection program: lines on standard input, replies on standard output.
+#![tactic(auto)]
+
 use console::session::{enough_bytes, run};
 use std::io::{Read, Write};
 use std::{env, io};

@@ -1,4 +1,6 @@
 // Lines, words and numbers of a text of bytes.
+#![tactic(auto)]
+
 ghost use Rattle.std.specs.Prelude.{◌≡◌, map, IfOk, Some};
 ghost use Rattle.std.specs.Option.{option_map};
 ghost use Rattle.lines.specs.Text.{before, behind, lines_of, number_of, numbers_of};

@@ -1,4 +1,6 @@
 // Sampling plans, why they are refused, and the theory of their risk.
+#![tactic(auto)]
+
 ghost use Rattle.plans.specs.Examples.{Examples};
 
 pub mod fault;

@@ -1,4 +1,6 @@
 // The planner's tool: the smallest samples that keep a limit, and the chance that a plan passes a reel.
+#![tactic(auto)]
+
 ghost use Rattle.std.specs.Prelude.{◌≡◌, ◌*◌, true, false};
 ghost use Rattle.plans.specs.Working.{divide, whole};
 

@@ -1,4 +1,6 @@
 // The slip: what an inspection came to, as bytes.
+#![tactic(auto)]
+
 pub mod fault;
 mod fields;
 mod frames;

@@ -1,4 +1,6 @@
 // Two published tables of samples worked out again: row by row the published figures, the enclosures, and whether they agree.
+#![tactic(auto)]
+
 ghost use Rattle.std.specs.Prelude.{◌≡◌, ◌+◌, ◌-◌, ◌^◌, min};
 ghost use Rattle.tables.specs.Verdicts.{one_if_agree};
 

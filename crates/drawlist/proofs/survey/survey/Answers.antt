@@ -14,11 +14,11 @@ loop-line-init c = (
 
 pub loop-line-preserved : goal.loop-line-preserved
 loop-line-preserved c =
-    let row = naming c.read-row-row.result in
-    let before : c.named-before-earlier.result ≡ earlier row (map (λ (s : Seen). naming s.row) (vec_items c.loop-line.seen)) =
-    c.named-before-earlier.ensures ∙ ap (λ l. earlier row (map (λ (s : Seen). naming s.row) l)) c.as-slice.ensures.value in
-    let step = line_more _ c.args.lines.now c.loop-line.line-index _ (vec_items c.loop-line.seen) _ _ _ _ c.loop-line-test.true c.loop-line.invariant.0 c.read-row-row.ensures before c.is-none.ensures c.count-tally.ensures in (
-      subst (λ seen. Surveys c.args.reel (names_of c.args.reel (take (c.loop-line.line-index + 1) c.args.lines.now)) seen c.count-tally.result) (sym c.in-ok-push.ensures.items) step,
+    let row = naming c.read_row-row.result in
+    let before : c.named_before-earlier.result ≡ earlier row (map (λ (s : Seen). naming s.row) (vec_items c.loop-line.seen)) =
+    c.named_before-earlier.ensures ∙ ap (λ l. earlier row (map (λ (s : Seen). naming s.row) l)) c.as_slice.ensures.value in
+    let step = line_more _ c.args.lines.now c.loop-line.line-index _ (vec_items c.loop-line.seen) _ _ _ _ c.loop-line-test.true c.loop-line.invariant.0 c.read_row-row.ensures before c.is_none.ensures c.count-tally.ensures in (
+      subst (λ seen. Surveys c.args.reel (names_of c.args.reel (take (c.loop-line.line-index + 1) c.args.lines.now)) seen c.count-tally.result) (sym c.in_ok-push.ensures.items) step,
       room_more _ _ _ _ _ c.count-tally.ensures c.loop-line.invariant.1,
     )
 
