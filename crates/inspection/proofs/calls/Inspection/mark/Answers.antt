@@ -17,7 +17,7 @@ returns g c =
     let left = set table c.stub-stub.result.place (with_state (get_or table c.stub-stub.result.place blank) c.state.result) in
     record {
       answer = record {
-        value = ◌∙◌ {b = mark_check i.number c.size-size.result table c.stub-stub.result} c.in-default.ensures (λ t. mark_check i.number (c.size-size.ensures.is t) table (c.stub-stub.ensures t));
+        value = ◌∙◌ {b = mark_check i.number c.size-size.result table c.stub-stub.result} c.in_default.ensures (λ t. mark_check i.number (c.size-size.ensures.is t) table (c.stub-stub.ensures t));
         table_left = (λ t. set table (c.stub-stub.ensures t).place (with_state (get_or table (c.stub-stub.ensures t).place blank) (c.state.ensures t)));
         held_left = (λ t. record {
           number = i.number;
