@@ -8,5 +8,5 @@ use Rattle.slip.proofs.fields.put_head.Goals as goal
 pub returns : goal.returns
 returns g c =
     let within : 0 ≤ length c.args.buffer.now = omega arith in
-    let P : ℕ → Type 0 = λ reel. Put c.args.buffer.now 0 (flat_map field_bytes (reel_fields c.args.number reel c.args.rule)) c.put-reel-end.new.buffer c.put-reel-end.result in
-    put_more (put_more (subst P c.reel.ensures c.put-reel-end.ensures) c.put-plan-end.ensures within) c.put-outcome.ensures within
+    let P : ℕ → Type 0 = λ reel. Put c.args.buffer.now 0 (flat_map field_bytes (reel_fields c.args.number reel c.args.rule)) c.put_reel-end.new.buffer c.put_reel-end.result in
+    put_more (put_more (subst P c.reel.ensures c.put_reel-end.ensures) c.put_plan-end.ensures within) c.put_outcome.ensures within

@@ -8,5 +8,5 @@ use Rattle.slip.proofs.fields.put_outcome.Goals as goal
 pub returns : goal.returns
 returns c =
     let within : c.args.at ≤ length c.args.buffer.now = omega (arith, c.requires.room) in
-    let P : ℕ → Type 0 = λ code. Put c.args.buffer.now c.args.at (flat_map field_bytes (outcome_fields code c.args.report.counts)) c.put-field.new.buffer c.put-field.result in
-    subst P c.code-of.ensures (put_more c.put-field-end.ensures c.put-field.ensures within)
+    let P : ℕ → Type 0 = λ code. Put c.args.buffer.now c.args.at (flat_map field_bytes (outcome_fields code c.args.report.counts)) c.put_field.new.buffer c.put_field.result in
+    subst P c.code_of.ensures (put_more c.put_field-end.ensures c.put_field.ensures within)

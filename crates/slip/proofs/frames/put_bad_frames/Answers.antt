@@ -13,7 +13,7 @@ use Rattle.slip.proofs.Addressing.{entry_bytes, entry_by_entry, first_addressed,
 use Rattle.slip.proofs.Joins.{put_none, put_more, put_same}
 use Rattle.slip.proofs.Turns.{joined_turn, joined_room, joined_all}
 use Rattle.slip.proofs.frames.put_bad_frames.Goals as goal
-use Rattle.slip.proofs.frames.put_bad_frames.Goals.{then-is-bad, else-is-bad}
+use Rattle.slip.proofs.frames.put_bad_frames.Goals.{then-is_bad, else-is_bad}
 
 pub loop-entry-init : goal.loop-entry-init
 loop-entry-init g c = (put_none c.args.buffer.now c.args.at, c.requires.addressed)
@@ -23,21 +23,21 @@ addressed_here : (m : SchemeMeaning) (N : ℕ) (entries : List Entry) (i : ℕ) 
 addressed_here m N entries i inside bad all =
     first_addressed m N (frame_of (get_or entries i blank)) (bad_frames (drop (i + 1) entries)) (sym (ap (all_addressed m N) (left_if_bad entries i blank inside bad)) ∙ all)
 
-pub put-frame-end-requires : goal.put-frame-end-requires
-put-frame-end-requires g c =
+pub put_frame-end-requires : goal.put_frame-end-requires
+put_frame-end-requires g c =
     let m = g.S.Scheme.meaning c.args.scheme.now in
     record {
       room =
           omega (
             arith,
             joined_room (entry_bytes m) c.args.pulled.now c.loop-entry.entry-index blank c.loop-entry-test.true,
-            ap length (bytes_if_bad m (get_or c.args.pulled.now c.loop-entry.entry-index blank) (sym c.is-bad.ensures ∙ c.if-is-bad.true)),
+            ap length (bytes_if_bad m (get_or c.args.pulled.now c.loop-entry.entry-index blank) (sym c.is_bad.ensures ∙ c.if-is_bad.true)),
             ap length (entry_by_entry m c.args.pulled.now),
             c.loop-entry.invariant.0.ends,
             c.loop-entry.auto.buffer,
             c.requires.room,
           );
-      addressed = (addressed_here m c.args.reel c.args.pulled.now c.loop-entry.entry-index c.loop-entry-test.true (sym c.is-bad.ensures ∙ c.if-is-bad.true) c.loop-entry.invariant.1).0;
+      addressed = (addressed_here m c.args.reel c.args.pulled.now c.loop-entry.entry-index c.loop-entry-test.true (sym c.is_bad.ensures ∙ c.if-is_bad.true) c.loop-entry.invariant.1).0;
     }
 
 pub loop-entry-preserved : goal.loop-entry-preserved
@@ -48,20 +48,20 @@ loop-entry-preserved g c =
     let turn = joined_turn (entry_bytes m) entries i blank c.loop-entry-test.true in
     let before = flat_map (entry_bytes m) (take i entries) in
     let within : c.args.at ≤ length c.args.buffer.now = omega (arith, c.requires.room) in
-    elim c.if-is-bad.branch [
-      | then-is-bad w ↦ (
-        put_same (put_more c.loop-entry.invariant.0 w.put-frame-end.ensures within)
-            (sym (turn ∙ ap (λ (bytes : List ℕ). before ++ bytes) (bytes_if_bad m (get_or entries i blank) (sym c.is-bad.ensures ∙ w.if-is-bad.true))))
+    elim c.if-is_bad.branch [
+      | then-is_bad w ↦ (
+        put_same (put_more c.loop-entry.invariant.0 w.put_frame-end.ensures within)
+            (sym (turn ∙ ap (λ (bytes : List ℕ). before ++ bytes) (bytes_if_bad m (get_or entries i blank) (sym c.is_bad.ensures ∙ w.if-is_bad.true))))
             w.buffer-is
             w.end-is,
-        (addressed_here m c.args.reel entries i c.loop-entry-test.true (sym c.is-bad.ensures ∙ w.if-is-bad.true) c.loop-entry.invariant.1).1,
+        (addressed_here m c.args.reel entries i c.loop-entry-test.true (sym c.is_bad.ensures ∙ w.if-is_bad.true) c.loop-entry.invariant.1).1,
       )
-      | else-is-bad w ↦ (
+      | else-is_bad w ↦ (
         put_same c.loop-entry.invariant.0
-            (sym (turn ∙ ap (λ (bytes : List ℕ). before ++ bytes) (bytes_if_other m (get_or entries i blank) (sym c.is-bad.ensures ∙ w.if-is-bad.false)) ∙ append-nil before))
+            (sym (turn ∙ ap (λ (bytes : List ℕ). before ++ bytes) (bytes_if_other m (get_or entries i blank) (sym c.is_bad.ensures ∙ w.if-is_bad.false)) ∙ append-nil before))
             w.buffer-is
             w.end-is,
-        sym (ap (all_addressed m c.args.reel) (left_if_other entries i blank c.loop-entry-test.true (sym c.is-bad.ensures ∙ w.if-is-bad.false))) ∙ c.loop-entry.invariant.1,
+        sym (ap (all_addressed m c.args.reel) (left_if_other entries i blank c.loop-entry-test.true (sym c.is_bad.ensures ∙ w.if-is_bad.false))) ∙ c.loop-entry.invariant.1,
       )
     ]
 

@@ -1,5 +1,5 @@
 use Rattle.std.proofs.Common.{◌≡◌, take, drop}
-use Rattle.film.specs.Refusals.{goal as given-answer}
+use Rattle.film.specs.Refusals.{given as given-answer}
 use Rattle.slip.specs.Answers.{all_addressed}
 use Rattle.slip.specs.Bytes.{Put}
 use Rattle.slip.specs.Fields.{bad_frames}

@@ -5,8 +5,8 @@ use Rattle.slip.proofs.Joins.{put_none, put_more}
 use Rattle.slip.proofs.Turns.{joined_turn, joined_room, joined_all}
 use Rattle.slip.proofs.put.put_numbers.Goals as goal
 
-pub put-number-end-requires : goal.put-number-end-requires
-put-number-end-requires c =
+pub put_number-end-requires : goal.put_number-end-requires
+put_number-end-requires c =
     omega (arith, joined_room number_bytes c.args.numbers.now c.loop-number.number-index (One 0) c.loop-number-test.true, c.loop-number.invariant.ends, c.loop-number.auto.buffer, c.requires)
 
 pub loop-number-init : goal.loop-number-init
@@ -15,9 +15,9 @@ loop-number-init c = put_none c.args.buffer.now c.args.at
 pub loop-number-preserved : goal.loop-number-preserved
 loop-number-preserved c =
     let within : c.args.at ≤ length c.args.buffer.now = omega (arith, c.requires) in
-    let P : List ℕ → Type 0 = λ bytes. Put c.args.buffer.now c.args.at bytes c.put-number-end.new.buffer c.put-number-end.result in
+    let P : List ℕ → Type 0 = λ bytes. Put c.args.buffer.now c.args.at bytes c.put_number-end.new.buffer c.put_number-end.result in
     subst P (sym (joined_turn number_bytes c.args.numbers.now c.loop-number.number-index (One 0) c.loop-number-test.true))
-    (put_more c.loop-number.invariant c.put-number-end.ensures within)
+    (put_more c.loop-number.invariant c.put_number-end.ensures within)
 
 pub returns : goal.returns
 returns c =

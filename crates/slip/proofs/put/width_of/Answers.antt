@@ -5,8 +5,8 @@ use Rattle.slip.specs.declared.put.Number.TheVariants.{One}
 use Rattle.slip.proofs.Turns.{joined_turn, joined_room, joined_all}
 use Rattle.slip.proofs.put.width_of.Goals as goal
 
-pub overflow-add-width : goal.overflow-add-width
-overflow-add-width c =
+pub overflow_add-width : goal.overflow_add-width
+overflow_add-width c =
     let here = get_or c.args.numbers.now c.loop-number.number-index (One 0) in
     let so_far : c.loop-number.width ≡ length (bytes_of (take c.loop-number.number-index c.args.numbers.now)) = c.loop-number.invariant in
     let more : c.width-width.result ≡ length (number_bytes here) = c.width-width.ensures in

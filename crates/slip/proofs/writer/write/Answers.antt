@@ -17,26 +17,26 @@ use Rattle.slip.proofs.Joins.{put_more, put_same}
 use Rattle.slip.proofs.Written.{known, head_same, short_table, short_buffer, unaddressed, written}
 use Rattle.slip.proofs.writer.write.Goals as goal
 
-pub returns-in-err-report : goal.returns-in-err-report
-returns-in-err-report g c =
+pub returns-in_err-report : goal.returns-in_err-report
+returns-in_err-report g c =
     let i = c.args.inspection.now in
     let rule = (g.R.DrawRule.meaning (rule_of i)).code in
     let s = g.S.Scheme.meaning c.args.scheme.now in
-    let p = err_from_is_err_and c.from-residual.result c.from-residual.ensures.1 in
-    let answer : reading slip_refusal c.from-residual.result ≡ _ = ap (λ (r : Result ℕ SlipFault). reading slip_refusal r) p.1 ∙ ap (λ (fault : SlipFault). refused (slip_refusal fault)) p.2 in
+    let p = err_from_is_err_and c.from_residual.result c.from_residual.ensures.1 in
+    let answer : reading slip_refusal c.from_residual.result ≡ _ = ap (λ (r : Result ℕ SlipFault). reading slip_refusal r) p.1 ∙ ap (λ (fault : SlipFault). refused (slip_refusal fault)) p.2 in
     let W : Answer ℕ → Type 0 = λ answer. Writes rule s (held_of i) c.args.table.now c.args.buffer.now answer c.args.buffer.now in
-    subst W (sym answer) (short_table rule s (held_of i) c.args.table.now c.args.buffer.now (inspection_refusal c.in-err-report.field-0.0) c.in-err-report.ensures.answer.value)
+    subst W (sym answer) (short_table rule s (held_of i) c.args.table.now c.args.buffer.now (inspection_refusal c.in_err-report.field-0.0) c.in_err-report.ensures.answer.value)
 
-pub overflow-mul-needed : goal.overflow-mul-needed
-overflow-mul-needed g c =
-    let k = known c.args.inspection.now c.args.table.now c.in-ok-report.report c.in-ok-report.ensures.answer.value in
-    let small : c.in-ok-report.report.counts.bad ≤ 32768 = k.few.bad in
+pub overflow_mul-needed : goal.overflow_mul-needed
+overflow_mul-needed g c =
+    let k = known c.args.inspection.now c.args.table.now c.in_ok-report.report c.in_ok-report.ensures.answer.value in
+    let small : c.in_ok-report.report.counts.bad ≤ 32768 = k.few.bad in
     search rules
 
-pub overflow-add-needed : goal.overflow-add-needed
-overflow-add-needed g c =
-    let k = known c.args.inspection.now c.args.table.now c.in-ok-report.report c.in-ok-report.ensures.answer.value in
-    let small : c.in-ok-report.report.counts.bad ≤ 32768 = k.few.bad in
+pub overflow_add-needed : goal.overflow_add-needed
+overflow_add-needed g c =
+    let k = known c.args.inspection.now c.args.table.now c.in_ok-report.report c.in_ok-report.ensures.answer.value in
+    let small : c.in_ok-report.report.counts.bad ≤ 32768 = k.few.bad in
     search rules
 
 pub returns-then-buffer-needed : goal.returns-then-buffer-needed
@@ -44,51 +44,51 @@ returns-then-buffer-needed g c =
     let i = c.args.inspection.now in
     let rule = (g.R.DrawRule.meaning (rule_of i)).code in
     let s = g.S.Scheme.meaning c.args.scheme.now in
-    let k = known i c.args.table.now c.in-ok-report.report c.in-ok-report.ensures.answer.value in
-    short_buffer rule s (held_of i) c.args.table.now c.args.buffer.now (74 + 9 * c.in-ok-report.report.counts.bad) k.long (k.needed rule s) c.if-buffer-needed.true
+    let k = known i c.args.table.now c.in_ok-report.report c.in_ok-report.ensures.answer.value in
+    short_buffer rule s (held_of i) c.args.table.now c.args.buffer.now (74 + 9 * c.in_ok-report.report.counts.bad) k.long (k.needed rule s) c.if-buffer-needed.true
 
-pub slice-bounds-pulled-end : goal.slice-bounds-pulled-end
-slice-bounds-pulled-end g c =
-    let k = known c.args.inspection.now c.args.table.now c.in-ok-report.report c.in-ok-report.ensures.answer.value in
-    let inside : c.in-ok-report.report.counts.pulled ≤ length c.args.table.now = k.inside in
+pub slice_bounds-pulled-end : goal.slice_bounds-pulled-end
+slice_bounds-pulled-end g c =
+    let k = known c.args.inspection.now c.args.table.now c.in_ok-report.report c.in_ok-report.ensures.answer.value in
+    let inside : c.in_ok-report.report.counts.pulled ≤ length c.args.table.now = k.inside in
     search rules
 
-pub returns-in-err-check-addresses : goal.returns-in-err-check-addresses
-returns-in-err-check-addresses g c =
+pub returns-in_err-check_addresses : goal.returns-in_err-check_addresses
+returns-in_err-check_addresses g c =
     let i = c.args.inspection.now in
     let rule = (g.R.DrawRule.meaning (rule_of i)).code in
     let s = g.S.Scheme.meaning c.args.scheme.now in
     let table = c.args.table.now in
     let buffer = c.args.buffer.now in
-    let report = c.in-ok-report.report in
-    let fault = c.in-err-check-addresses.field-0.0 in
-    let k = known i table report c.in-ok-report.ensures.answer.value in
+    let report = c.in_ok-report.report in
+    let fault = c.in_err-check_addresses.field-0.0 in
+    let k = known i table report c.in_ok-report.ensures.answer.value in
     let reel : c.reel-reel.result ≡ (held_of i).terms.N = c.reel-reel.ensures ∙ ap (λ (p : Certified _). p.reel) c.certified-certified.ensures in
-    let first : reading {A = Unit {0}} refusal_of (Err fault) ≡ all_addressed s c.reel-reel.result (bad_frames (take (report.counts.pulled - 0) table)) = c.in-err-check-addresses.ensures in
+    let first : reading {A = Unit {0}} refusal_of (Err fault) ≡ all_addressed s c.reel-reel.result (bad_frames (take (report.counts.pulled - 0) table)) = c.in_err-check_addresses.ensures in
     let none : refused (refusal_of fault) ≡ all_addressed s (held_of i).terms.N (bad_frames_of (held_of i) table) =
     first
     ∙ ap (λ N. all_addressed s N (bad_frames (take (report.counts.pulled - 0) table))) reel
     ∙ ap (λ (frames : List ℕ). all_addressed s (held_of i).terms.N frames) k.frames in
     let fits = subst (λ n. n ≤ length buffer) (k.needed rule s) c.if-buffer-needed.false in
-    let p = err_from_is_err_and c.from-residual-in-err-check-addresses.result c.from-residual-in-err-check-addresses.ensures.1 in
-    let answer : reading slip_refusal c.from-residual-in-err-check-addresses.result ≡ _ = ap (λ (r : Result ℕ SlipFault). reading slip_refusal r) p.1 ∙ ap (λ (fault : SlipFault). refused (slip_refusal fault)) p.2 in
+    let p = err_from_is_err_and c.from_residual-in_err-check_addresses.result c.from_residual-in_err-check_addresses.ensures.1 in
+    let answer : reading slip_refusal c.from_residual-in_err-check_addresses.result ≡ _ = ap (λ (r : Result ℕ SlipFault). reading slip_refusal r) p.1 ∙ ap (λ (fault : SlipFault). refused (slip_refusal fault)) p.2 in
     let W : Answer ℕ → Type 0 = λ answer. Writes rule s (held_of i) table buffer answer buffer in
     subst W (sym answer) (unaddressed rule s (held_of i) table buffer (refusal_of fault) k.long fits none)
 
-pub put-head-end-requires : goal.put-head-end-requires
-put-head-end-requires g c =
-    let k = known c.args.inspection.now c.args.table.now c.in-ok-report.report c.in-ok-report.ensures.answer.value in
+pub put_head-end-requires : goal.put_head-end-requires
+put_head-end-requires g c =
+    let k = known c.args.inspection.now c.args.table.now c.in_ok-report.report c.in_ok-report.ensures.answer.value in
     record { room = omega (arith, c.if-buffer-needed.false); few = k.few }
 
-pub put-bad-frames-requires : goal.put-bad-frames-requires
-put-bad-frames-requires g c =
+pub put_bad_frames-requires : goal.put_bad_frames-requires
+put_bad_frames-requires g c =
     let i = c.args.inspection.now in
     let rule = (g.R.DrawRule.meaning (rule_of i)).code in
     let s = g.S.Scheme.meaning c.args.scheme.now in
-    let k = known i c.args.table.now c.in-ok-report.report c.in-ok-report.ensures.answer.value in
+    let k = known i c.args.table.now c.in_ok-report.report c.in_ok-report.ensures.answer.value in
     record {
-      room = omega (arith, k.room rule s, k.needed rule s, c.if-buffer-needed.false, c.put-head-end.ensures.ends, c.put-head-end.auto.buffer);
-      addressed = sym c.in-ok-check-addresses.ensures;
+      room = omega (arith, k.room rule s, k.needed rule s, c.if-buffer-needed.false, c.put_head-end.ensures.ends, c.put_head-end.auto.buffer);
+      addressed = sym c.in_ok-check_addresses.ensures;
     }
 
 pub returns : goal.returns
@@ -98,11 +98,11 @@ returns g c =
     let s = g.S.Scheme.meaning c.args.scheme.now in
     let table = c.args.table.now in
     let buffer = c.args.buffer.now in
-    let report = c.in-ok-report.report in
-    let k = known i table report c.in-ok-report.ensures.answer.value in
+    let report = c.in_ok-report.report in
+    let k = known i table report c.in_ok-report.ensures.answer.value in
     let reel : c.reel-reel.result ≡ (held_of i).terms.N = c.reel-reel.ensures ∙ ap (λ (p : Certified _). p.reel) c.certified-certified.ensures in
     let code : c.code-rule.result ≡ rule = c.code-rule.ensures ∙ ap (λ (r : g.row.R.Denot). (g.R.DrawRule.meaning r).code) (c.rule.ensures ∙ ap (λ (p : Certified _). p.rule) c.certified-certified.ensures) in
-    let first : given tt ≡ all_addressed s c.reel-reel.result (bad_frames (take (report.counts.pulled - 0) table)) = c.in-ok-check-addresses.ensures in
+    let first : given tt ≡ all_addressed s c.reel-reel.result (bad_frames (take (report.counts.pulled - 0) table)) = c.in_ok-check_addresses.ensures in
     let all : given tt ≡ all_addressed s (held_of i).terms.N (bad_frames_of (held_of i) table) =
     first
     ∙ ap (λ N. all_addressed s N (bad_frames (take (report.counts.pulled - 0) table))) reel
@@ -112,5 +112,5 @@ returns g c =
     head_same {h = held_of i} code c.number.ensures (ap (λ (p : Certified _). certified_numbers p) c.certified-certified.ensures) k.code k.counts in
     let frames = ap (λ (frames : List ℕ). flat_map field_bytes (map (frame_field s) frames)) k.frames in
     let none : 0 ≤ length buffer = omega arith in
-    written rule s (held_of i) table buffer c.put-bad-frames.new.buffer c.put-bad-frames.result k.long fits all
-    (put_same (put_more (put_same c.put-head-end.ensures head refl refl) (put_same c.put-bad-frames.ensures frames refl refl) none) (sym (slip_parts rule s (held_of i) table)) refl refl)
+    written rule s (held_of i) table buffer c.put_bad_frames.new.buffer c.put_bad_frames.result k.long fits all
+    (put_same (put_more (put_same c.put_head-end.ensures head refl refl) (put_same c.put_bad_frames.ensures frames refl refl) none) (sym (slip_parts rule s (held_of i) table)) refl refl)

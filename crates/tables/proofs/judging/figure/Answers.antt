@@ -8,8 +8,8 @@ few c =
     let scale : c.args.scale ≤ 2 ^ 32 = omega arith in
     mul-le-mul units scale
 
-pub overflow-mul-result-2 : goal.overflow-mul-result-2
-overflow-mul-result-2 c = omega (arith, few c)
+pub overflow_mul-result-2 : goal.overflow_mul-result-2
+overflow_mul-result-2 c = omega (arith, few c)
 
-pub overflow-add-result : goal.overflow-add-result
-overflow-add-result c = omega (arith, few c)
+pub overflow_add-result : goal.overflow_add-result
+overflow_add-result c = omega (arith, few c)

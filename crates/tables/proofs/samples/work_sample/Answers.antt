@@ -5,6 +5,6 @@ use Rattle.tables.proofs.samples.work_sample.Goals as goal
 
 pub returns : goal.returns
 returns c =
-    sample-worked c.args.row _ c.rest.result c.judge-confidence.result refl c.in-ok-sample.ensures.truly c.in-ok-passing.ensures c.rest.ensures
+    sample-worked c.args.row _ c.rest.result c.judge-confidence.result refl c.in_ok-sample.ensures.truly c.in_ok-passing.ensures c.rest.ensures
     (subst (λ s. Judges s c.args.row.confidence c.rest.result.lo c.rest.result.hi c.judge-confidence.result) c.scale.ensures.value c.judge-confidence.ensures)
     (c.and.ensures ∙ ap (λ x. joined x c.judge-confidence.result) c.same.ensures)
