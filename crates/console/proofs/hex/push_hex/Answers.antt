@@ -7,4 +7,4 @@ pub returns : goal.returns
 returns c =
     let byte = c.args.byte in
     sym (append-nil _) ∙
-    two_more (string_bytes c.args.out.now) (string_bytes c.push-digit.new.out) _ (hex_digit (byte / 16) ∷ []) (hex_digit (byte % 16) ∷ []) [] c.in-ok-push-digit.ensures c.in-ok-push-digit-2.ensures
+    two_more (string_bytes c.args.out.now) (string_bytes c.push_digit.new.out) _ (hex_digit (byte / 16) ∷ []) (hex_digit (byte % 16) ∷ []) [] c.in_ok-push_digit.ensures c.in_ok-push_digit-2.ensures

@@ -7,7 +7,7 @@ use Rattle.console.proofs.hex.push_hex_lines.Goals as goal
 pub loop-i-preserved : goal.loop-i-preserved
 loop-i-preserved c =
     let bytes = c.args.bytes.now in
-    two_more (string_bytes c.loop-i.out) _ _ _ _ _ c.in-ok-push-hex.ensures c.in-ok-push-ending.ensures ∙
+    two_more (string_bytes c.loop-i.out) _ _ _ _ _ c.in_ok-push_hex.ensures c.in_ok-push_ending.ensures ∙
     ap (λ l. string_bytes c.loop-i.out ++ l) (sym (at_drop_more (hex_from c.loop-i.i (length bytes)) bytes c.loop-i.i 0 c.loop-i-test.true)) ∙
     c.loop-i.invariant
 

@@ -10,7 +10,7 @@ joined b b' b'' x y p q = q ∙ ap (λ l. l ++ y) p ∙ append_assoc b x y
 pub returns : goal.returns
 returns c =
     let reply = c.args.reply in
-    let first = c.in-ok-push-str.ensures.bytes ∙ ap (λ l. string_bytes c.args.out.now ++ l) (c.as-str.ensures.value ∙ c.in-ok-first.ensures) in
-    joined (string_bytes c.args.out.now) (string_bytes c.push-str.new.self) _ _ _ first c.in-ok-push-hex-lines.ensures ∙
-    ap (λ (slip : List ℕ). string_bytes c.args.out.now ++ (first_line reply (length slip) ++ hex_lines slip)) c.slip-in-slip.ensures ∙
+    let first = c.in_ok-push_str.ensures.bytes ∙ ap (λ l. string_bytes c.args.out.now ++ l) (c.as_str.ensures.value ∙ c.in_ok-first.ensures) in
+    joined (string_bytes c.args.out.now) (string_bytes c.push_str.new.self) _ _ _ first c.in_ok-push_hex_lines.ensures ∙
+    ap (λ (slip : List ℕ). string_bytes c.args.out.now ++ (first_line reply (length slip) ++ hex_lines slip)) c.slip_in-slip.ensures ∙
     ap (λ l. string_bytes c.args.out.now ++ l) (reply_is reply c.args.buffer.now)
