@@ -1,7 +1,7 @@
 -- How the numbers of allowed lists grow by one more frame, for every lawful rule. Assumes nothing.
 use Rattle.std.proofs.Common.{◌≡◌, ℕ, zero, suc, ◌+◌, ◌*◌, ◌<◌, ◌≤◌, Bool, true, false, cond, not, ◌&&◌, eqb, List, [], ◌∷◌, ◌++◌, length, sym, refl, ap, ◌∙◌, ⊎_elim, add-zero, mul-pos, mul-zero, add-one, arith}
 use lib.Dec.{eqb-suc-suc}
-use Rattle.std.specs.List.{flat_map, AllByRecursion as All}
+use Rattle.std.specs.List.{flat_map, AllByRecursion}
 use Rattle.std.proofs.lemmas.List.{length_push}
 use Rattle.std.proofs.ByRecursion.{All-append, All-map, All-weaker}
 use Rattle.std.proofs.lemmas.Bool.{cases_lt, both_ways, false≢true, eqb-true, ne_eqb, and_parts, and_right}
@@ -25,15 +25,15 @@ when_true false e = refl
 abbrev Drawn : DrawMeaning → ℕ → ℕ → List ℕ → Type 0
 Drawn m N k l = Allowed m N l × (length l ≡ k)
 
-all_all_below : (q : ℕ → Bool) (n : ℕ) → All (λ f. q f ≡ true) (all_below q n)
+all_all_below : (q : ℕ → Bool) (n : ℕ) → AllByRecursion (λ f. q f ≡ true) (all_below q n)
 all_all_below q zero = tt
 all_all_below q (suc n) = one (q n) refl (all_all_below q n)
   where
-    one : (b : Bool) → q n ≡ b → All (λ f. q f ≡ true) (all_below q n) → All (λ f. q f ≡ true) (cond b (n ∷ all_below q n) (all_below q n))
+    one : (b : Bool) → q n ≡ b → AllByRecursion (λ f. q f ≡ true) (all_below q n) → AllByRecursion (λ f. q f ≡ true) (cond b (n ∷ all_below q n) (all_below q n))
     one true e rest = (e, rest)
     one false e rest = rest
 
-all_joined : {A B : Type 0} (P : A → Type 0) (Q : B → Type 0) (f : A → List B) → ((x : A) → P x → All Q (f x)) → (xs : List A) → All P xs → All Q (flat_map f xs)
+all_joined : {A B : Type 0} (P : A → Type 0) (Q : B → Type 0) (f : A → List B) → ((x : A) → P x → AllByRecursion Q (f x)) → (xs : List A) → AllByRecursion P xs → AllByRecursion Q (flat_map f xs)
 all_joined P Q f h [] all = tt
 all_joined P Q f h (x ∷ xs) all = All-append Q (f x) (flat_map f xs) (h x all.0) (all_joined P Q f h xs all.1)
 
@@ -42,11 +42,11 @@ count_in_onward : (m : DrawMeaning) (N : ℕ) (p : List ℕ → Bool) (l : List 
 count_in_onward m N p l = count_in_map p (λ f. l ++ f ∷ []) (all_below (m.follows N l) N) ∙ count_in_all_below (λ f. p (l ++ f ∷ [])) (m.follows N l) N
 
 module _ (m : DrawMeaning) (N : ℕ) where
-  onward_allowed : (k : ℕ) (l : List ℕ) → Drawn m N k l → All (Drawn m N (suc k)) (onward m N l)
+  onward_allowed : (k : ℕ) (l : List ℕ) → Drawn m N k l → AllByRecursion (Drawn m N (suc k)) (onward m N l)
   onward_allowed k l h = All-map (Drawn m N (suc k)) (λ f. l ++ f ∷ []) (all_below (m.follows N l) N)
       (All-weaker (λ f. m.follows N l f ≡ true) (λ f. Drawn m N (suc k) (l ++ f ∷ [])) (λ f may. (more h.0 may, omega (arith, length_push l f, h.1))) (all_below (m.follows N l) N) (all_all_below (m.follows N l) N))
 
-  pub lists_allowed : (k : ℕ) → All (λ l. Allowed m N l × (length l ≡ k)) (lists m N k)
+  pub lists_allowed : (k : ℕ) → AllByRecursion (λ l. Allowed m N l × (length l ≡ k)) (lists m N k)
   unfolding lists
   lists_allowed zero = ((none, refl), tt)
   lists_allowed (suc k) = all_joined (Drawn m N k) (Drawn m N (suc k)) (onward m N) (onward_allowed k) (lists m N k) (lists_allowed k)

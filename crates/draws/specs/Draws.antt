@@ -1,6 +1,6 @@
 -- What a draw rule means, which drawn lists it allows, and what every rule owes. Assumes nothing.
 use Rattle.std.specs.Prelude.{◌≡◌, ℕ, zero, suc, ◌<◌, ◌≤◌, Bool, true, false, not, ◌&&◌, List, [], ◌∷◌, ◌++◌, map, length, ◌==◌, ◌≢◌}
-use Rattle.std.specs.List.{flat_map, AllByRecursion as All}
+use Rattle.std.specs.List.{flat_map, AllByRecursion}
 use Rattle.draws.specs.Counting.{count_below, count_in, all_below}
 
 -- a rule, by what it answers: N is the reel's frames, D its bad ones, k the frames drawn, d the bad ones of these
@@ -43,7 +43,7 @@ same_list (x ∷ xs) (y ∷ ys) = x == y && same_list xs ys
 -- the enumeration and the predicate agree
 pub record Enumerates (m : DrawMeaning) (N : ℕ) : Type 0 where
   -- what is listed is allowed, and of k frames
-  pub listed : (k : ℕ) → All (λ l. Allowed m N l × (length l ≡ k)) (lists m N k)
+  pub listed : (k : ℕ) → AllByRecursion (λ l. Allowed m N l × (length l ≡ k)) (lists m N k)
   -- an allowed list of k frames is listed exactly once
   pub once : (k : ℕ) (l : List ℕ) → Allowed m N l → length l ≡ k → count_in (λ x. same_list x l) (lists m N k) ≡ 1
 

@@ -1,7 +1,7 @@
 -- Laws of counting below a number and in a list. Assumes nothing.
 use Rattle.std.specs.Prelude.{◌≡◌, ℕ, zero, suc, ◌+◌, ◌*◌, ◌<◌, ◌≤◌, Bool, true, false, cond, not, ◌&&◌, ltb, List, [], ◌∷◌, ◌++◌, map, length, ◌==◌, ◌≢◌, nat_eq, nat_lt, refl}
 use Rattle.std.proofs.Common.{sym, ap, ◌∙◌, ⊎_elim, add-mul, one-mul, zero-mul, zero-add, arith}
-use Rattle.std.specs.List.{flat_map, AllByRecursion as All}
+use Rattle.std.specs.List.{flat_map, AllByRecursion}
 use Rattle.std.proofs.lemmas.Bool.{false≢true, ne_eqb, eq-eqb, cases_eq, cases_lt, lt-ltb, le-ltb, and_right}
 use Rattle.draws.specs.Counting.{count_below, count_in, all_below}
 
@@ -175,7 +175,7 @@ once false c m = ap (λ n. n * m) (zero-add c) ∙ sym (zero-add (c * m))
 -- every member of f x is counted by what x itself passes
 module _ {A B : Type 0} (P : A → Type 0) (p : B → Bool) (f : A → List B) where
   pub count_in_joined : (a b : A → Bool) (m n : ℕ) → ((x : A) → P x → count_in p (f x) ≡ cond (a x) m 0 + cond (b x) n 0)
-      → (xs : List A) → All P xs → count_in p (flat_map f xs) ≡ count_in a xs * m + count_in b xs * n
+      → (xs : List A) → AllByRecursion P xs → count_in p (flat_map f xs) ≡ count_in a xs * m + count_in b xs * n
   count_in_joined a b m n each [] all = omega (arith, zero-mul m, zero-mul n)
   count_in_joined a b m n each (x ∷ xs) all =
       one (a x) (b x) (each x all.0) (count_in_joined a b m n each xs all.1)
@@ -185,7 +185,7 @@ module _ {A B : Type 0} (P : A → Type 0) (p : B → Bool) (f : A → List B) w
       one s t here e = omega (arith, count_in_append p (f x) (flat_map f xs), here, e, once s (count_in a xs) m, once t (count_in b xs) n)
 
   pub count_in_joined_most : (a : A → Bool) (m : ℕ) → ((x : A) → P x → count_in p (f x) ≤ cond (a x) m 0)
-      → (xs : List A) → All P xs → count_in p (flat_map f xs) ≤ count_in a xs * m
+      → (xs : List A) → AllByRecursion P xs → count_in p (flat_map f xs) ≤ count_in a xs * m
   count_in_joined_most a m each [] all = omega (arith, zero-mul m)
   count_in_joined_most a m each (x ∷ xs) all = one (a x) (each x all.0) (count_in_joined_most a m each xs all.1)
     where

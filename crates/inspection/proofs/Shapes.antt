@@ -1,6 +1,6 @@
 -- A pull table with some entries pulled and the others of both samples empty, and what it counts. Assumes nothing.
 use Rattle.std.proofs.Common.{◌≡◌, ℕ, zero, suc, ◌+◌, ◌-◌, ◌<◌, ◌≤◌, Bool, true, false, cond, List, [], ◌∷◌, ◌++◌, map, length, get_or, take, drop, set, replicate, sym, refl, ap, ◌∙◌, subst, ⊎_elim, zero-add, one-add, arith}
-use Rattle.std.specs.List.{AllByRecursion as All}
+use Rattle.std.specs.List.{AllByRecursion}
 use Rattle.std.proofs.lemmas.List.{append_assoc, length-append, length-replicate, length-map, take_at, get_or_append_left, get_or-append_right, get_or-replicate, drop_at}
 use Rattle.draws.specs.Counting.{count_in, count_below}
 use Rattle.draws.specs.Entries.{state_of, frames_of}
@@ -19,7 +19,7 @@ is_pulled Good = true
 is_pulled Bad = true
 
 abbrev pub Filled : List Entry → Type 0
-Filled xs = All (λ e. is_pulled (state_of e) ≡ true) xs
+Filled xs = AllByRecursion (λ e. is_pulled (state_of e) ≡ true) xs
 
 abbrev pub outs : List Entry → ℕ
 outs xs = count_in (λ e. is_out (state_of e)) xs

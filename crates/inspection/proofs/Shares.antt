@@ -1,6 +1,6 @@
 -- Every drawable list is viewed to its one end, and the share of those that end in a false PASS. Assumes nothing.
 use Rattle.std.proofs.Common.{◌≡◌, ℕ, zero, suc, ◌+◌, ◌*◌, ◌<◌, ◌≤◌, Bool, true, false, cond, eqb, ◌⊎◌, List, [], ◌∷◌, ◌++◌, length, drop, replicate, Decides, sym, refl, ap, ◌∙◌, subst, inl, inr, ⊎_elim, zero-add, arith}
-use Rattle.std.specs.List.{AllByRecursion as All}
+use Rattle.std.specs.List.{AllByRecursion}
 use Rattle.std.proofs.ByRecursion.{All-weaker}
 use Rattle.std.proofs.lemmas.List.{append-nil, append_assoc, map-append}
 use Rattle.std.proofs.lemmas.Bool.{eqb-true, eq-eqb, lt-ltb, cond-true, and_from, cases_eq}
@@ -182,5 +182,5 @@ module _ (m : DrawMeaning) (law : Lawful m) (s : SchemeMeaning) (scheme : Lawful
         told = tells;
       }
     where
-      drawable : All (Drawable m fresh) (lists m c.N (size_of c))
+      drawable : AllByRecursion (Drawable m fresh) (lists m c.N (size_of c))
       drawable = All-weaker (λ l. Allowed m c.N l × (length l ≡ size_of c)) (Drawable m fresh) (λ l h. record { allowed = h.0; long = h.1 }) (lists m c.N (size_of c)) (lists_allowed m c.N (size_of c))

@@ -1,6 +1,6 @@
 -- What the numbers of a working stay below, and which cells a draw reads, for code that works it in memory. Assumes nothing.
 use Rattle.std.proofs.Common.{◌≡◌, ℕ, zero, suc, ◌+◌, ◌*◌, ◌^◌, ◌<◌, ◌≤◌, Bool, List, [], ◌∷◌, length, refl, ap, mul-le-mul_right, add-mul, mul-le-mul, mul-le-mul_left, arith}
-use Rattle.std.specs.List.{AllByRecursion as All}
+use Rattle.std.specs.List.{AllByRecursion}
 use Rattle.draws.specs.Draws.{DrawMeaning, Allowed, Reel, Lawful, lists}
 use Rattle.draws.specs.Tallies.{count_below_most}
 use Rattle.draws.proofs.Recurrence.{lists_allowed, all_positive}
@@ -13,7 +13,7 @@ use Rattle.plans.proofs.Spread.{cleared_less}
 pub ways_few : (m : DrawMeaning) → Lawful m → (N : ℕ) → Reel N → (k : ℕ) → k < m.longest N → m.good N 0 k 0 ≤ N
 ways_few m law N reel k short = from_one (lists m N k) (lists_allowed m N k) (all_positive m N law reel k (omega arith))
   where
-    from_one : (ls : List (List ℕ)) → All (λ l. Allowed m N l × (length l ≡ k)) ls → 0 < length ls → m.good N 0 k 0 ≤ N
+    from_one : (ls : List (List ℕ)) → AllByRecursion (λ l. Allowed m N l × (length l ≡ k)) ls → 0 < length ls → m.good N 0 k 0 ≤ N
     from_one [] every some = absurd (omega arith)
     from_one (l ∷ ls) every some =
         let alike = law.alike N reel l every.0.0 (omega (arith, every.0.1)) in

@@ -1,6 +1,6 @@
 -- How the exact counts behind a sampling plan go from draw to draw and from sample to sample. Assumes nothing.
 use Rattle.std.proofs.Common.{◌≡◌, ℕ, zero, suc, ◌+◌, ◌*◌, ◌≤◌, Bool, true, false, cond, not, ◌&&◌, eqb, leb, List, [], ◌∷◌, ◌++◌, length, take, drop, sym, refl, ap, ◌∙◌, add-zero, add-suc, mul_assoc, mul_right_comm, arith}
-use Rattle.std.specs.List.{AllByRecursion as All}
+use Rattle.std.specs.List.{AllByRecursion}
 use Rattle.std.proofs.lemmas.List.{take-append-le, take_all}
 use Rattle.std.proofs.ByRecursion.{All-weaker}
 use Rattle.std.proofs.lemmas.Bool.{eq-eqb, eqb-true}
@@ -49,7 +49,7 @@ sent_on_settled is_bad w from k stays le s = settled_first is_bad w from k stays
 
 module _ (m : DrawMeaning) (N : ℕ) where
   -- all lists of k frames have k frames
-  pub lists_length : (k : ℕ) → All (λ l. length l ≡ k) (lists m N k)
+  pub lists_length : (k : ℕ) → AllByRecursion (λ l. length l ≡ k) (lists m N k)
   lists_length k = All-weaker (λ l. Allowed m N l × (length l ≡ k)) (λ l. length l ≡ k) (λ l h. h.1) (lists m N k) (lists_allowed m N k)
 
   pub accepted_cells : (is_bad : ℕ → Bool) (w : List ℕ → Bool) (s : Sample) (k : ℕ) → count_in (accepted is_bad w s k) (lists m N k) ≡ sum_below (cell m N w is_bad k) (suc s.accept)

@@ -1,22 +1,22 @@
 -- Counts of the members of a list, by tests that agree or add up. Assumes nothing.
 use Rattle.std.proofs.Common.{◌≡◌, ℕ, zero, suc, ◌+◌, Bool, true, false, cond, ◌&&◌, eqb, leb, List, [], ◌∷◌, sym, refl, ap, ◌∙◌, arith}
-use Rattle.std.specs.List.{AllByRecursion as All}
+use Rattle.std.specs.List.{AllByRecursion}
 use Rattle.std.proofs.lemmas.Bool.{leb-true, leb-false, lt-leb, eqb-true, eqb-false, ne_eqb}
 use Rattle.draws.specs.Counting.{count_in}
 use Rattle.plans.specs.Working.{sum_below}
 
 module _ {A : Type 0} (P : A → Type 0) where
   -- tests that agree
-  pub count_same : (p q : A → Bool) → ((x : A) → P x → p x ≡ q x) → (xs : List A) → All P xs → count_in p xs ≡ count_in q xs
+  pub count_same : (p q : A → Bool) → ((x : A) → P x → p x ≡ q x) → (xs : List A) → AllByRecursion P xs → count_in p xs ≡ count_in q xs
   count_same p q same [] h = refl
   count_same p q same (x ∷ xs) h = omega (arith, count_same p q same xs h.1, ap (λ b. cond {A = ℕ} b 1 0) (same x h.0))
 
   -- a test that two others share out
-  pub count_add : (p q r : A → Bool) → ((x : A) → P x → cond {A = ℕ} (p x) 1 0 ≡ cond (q x) 1 0 + cond (r x) 1 0) → (xs : List A) → All P xs → count_in p xs ≡ count_in q xs + count_in r xs
+  pub count_add : (p q r : A → Bool) → ((x : A) → P x → cond {A = ℕ} (p x) 1 0 ≡ cond (q x) 1 0 + cond (r x) 1 0) → (xs : List A) → AllByRecursion P xs → count_in p xs ≡ count_in q xs + count_in r xs
   count_add p q r share [] h = refl
   count_add p q r share (x ∷ xs) h = omega (arith, count_add p q r share xs h.1, share x h.0)
 
-pub all_any : {A : Type 0} (xs : List A) → All (λ x. Unit {0}) xs
+pub all_any : {A : Type 0} (xs : List A) → AllByRecursion (λ x. Unit {0}) xs
 all_any [] = tt
 all_any (x ∷ xs) = (tt, all_any xs)
 
