@@ -6,7 +6,7 @@
    What no proof on the other side of this line can see stays with the caller: a row is a pointer that is not null
    with that many cells behind it, and the two rows do not overlap.
 
-   Link libcapi.a (rt staticlib capi) and the toolchain's librattle_c.a. */
+   Link libcapi.a, which tools/build capi makes. */
 #ifndef KIFOLANTO_H
 #define KIFOLANTO_H
 
