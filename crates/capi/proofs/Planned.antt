@@ -1,6 +1,6 @@
 -- What crosses for a plan that was made, and for one that was not. Assumes nothing.
 use Rattle.std.proofs.Common.{◌≡◌, ℕ, List, Ok, Err, Result, sym, refl, ap, subst}
-use Rattle.film.specs.Refusals.{Answer, given, refused, Refusal}
+use Rattle.film.specs.Refusals.{Answer, refused}
 use Rattle.draws.specs.Draws.{DrawMeaning}
 use Rattle.plans.specs.Makes.{numbers_of, plan_reading}
 use Rattle.plans.specs.Faults.{plan_refusal}
@@ -8,7 +8,6 @@ use Rattle.plans.specs.declared.fault.PlanFault.{PlanFault}
 use Rattle.plans.specs.declared.plan.Plan.{Plan}
 use Rattle.sampling.specs.Chances.{Chances}
 use Rattle.sampling.specs.declared.chance.Ends.{Ends}
-use Rattle.capi.specs.Codes.{Kept}
 use Rattle.capi.specs.Crossings.{Crossed, crossing, ends_crossing}
 use Rattle.capi.specs.Plans.{PlannedChance}
 use Rattle.capi.specs.declared.answer.Refused.{Refused}

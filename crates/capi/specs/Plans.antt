@@ -1,6 +1,6 @@
 -- The chance of a plan by its numbers, whether or not they make one. Assumes nothing.
 use Rattle.std.specs.Prelude.{◌≡◌, ℕ, List}
-use Rattle.film.specs.Refusals.{Answer, given, refused, Refusal}
+use Rattle.film.specs.Refusals.{Answer, given, refused}
 use Rattle.draws.specs.Draws.{DrawMeaning}
 use Rattle.plans.specs.Plans.{PlanNumbers}
 use Rattle.sampling.specs.Chances.{Chances}

@@ -1,5 +1,5 @@
 -- A plan opened on a reel that was noted. Assumes nothing.
-use Rattle.std.proofs.Common.{◌≡◌, ℕ, List, sym, refl, ap, ◌∙◌, subst, arith}
+use Rattle.std.proofs.Common.{◌≡◌, ℕ, List, ap, ◌∙◌, arith}
 use Rattle.film.specs.Refusals.{Refusal, Answer, given, refused}
 use Rattle.draws.specs.declared.entry.Entry.{Entry}
 use Rattle.inspection.specs.Answers.{open_table}

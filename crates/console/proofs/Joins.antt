@@ -1,5 +1,5 @@
 -- One text behind another. Assumes nothing.
-use Rattle.std.proofs.Common.{◌≡◌, ℕ, List, ◌++◌, sym, ap, ◌∙◌, append_assoc}
+use Rattle.std.proofs.Common.{◌≡◌, ℕ, List, ◌++◌, ap, ◌∙◌, append_assoc}
 
 pub two_more : (b b' b'' x y z : List ℕ) → b' ≡ b ++ x → b'' ≡ b' ++ y → b'' ++ z ≡ b ++ (x ++ (y ++ z))
 two_more b b' b'' x y z p q =

@@ -1,8 +1,7 @@
 -- A line by its letter. Assumes nothing.
-use Rattle.std.proofs.Common.{◌≡◌, ℕ, ◌-◌, List, length, get_or, take, drop, None, Option, sym, ap, ◌∙◌}
+use Rattle.std.proofs.Common.{◌≡◌, ℕ, ◌-◌, List, length, get_or, take, drop, None, sym, ◌∙◌}
 use Rattle.std.proofs.lemmas.List.{take_rest}
 use Rattle.std.proofs.lemmas.Bool.{eq-eqb, cond-true}
-use Rattle.console.specs.declared.request.Request.{Request}
 use Rattle.console.specs.Requests.{request_by, request_of}
 
 -- what stands behind the letter and the blank, read as the letter says

@@ -1,5 +1,5 @@
 -- The output of a whole input. Assumes nothing.
-use Rattle.std.proofs.Common.{◌≡◌, ℕ, suc, ◌<◌, ◌≤◌, eqb, List, [], ◌∷◌, ◌++◌, length, take, replicate, sym, refl, ap, ◌∙◌, ⊎_elim, arith}
+use Rattle.std.proofs.Common.{◌≡◌, ℕ, suc, ◌<◌, ◌≤◌, eqb, List, [], ◌∷◌, ◌++◌, length, take, replicate, sym, ap, ◌∙◌, ⊎_elim, arith}
 use Rattle.std.proofs.lemmas.List.{length-take-le, take_all}
 use Rattle.std.proofs.lemmas.Bool.{cases_lt, cond-true, cond-false, cond_both, lt-ltb, le-ltb}
 use Rattle.film.specs.Refusals.{refusal_text}
@@ -7,7 +7,7 @@ use Rattle.draws.specs.declared.entry.Entry.{Entry}
 use Rattle.inspection.specs.Tables.{blank}
 use Rattle.lines.specs.Text.{lines_of, lengthened}
 use Rattle.console.specs.Replies.{newline, reply_text, output_from, output_of, too_long}
-use Rattle.console.specs.Sessions.{begun, fresh, no, session}
+use Rattle.console.specs.Sessions.{begun, no, session}
 
 -- a line takes a byte at least
 lengthened_few : (b : ℕ) (ls : List (List ℕ)) → length (lengthened b ls) ≤ suc (length ls)

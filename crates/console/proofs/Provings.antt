@@ -1,5 +1,5 @@
 -- The three theorems of an inspection on a certified plan. Assumes nothing.
-use Rattle.std.proofs.Common.{◌≡◌, ℕ, Bool, ltb, List, length, sym, refl, ap, ◌∙◌, subst}
+use Rattle.std.proofs.Common.{◌≡◌, ℕ, Bool, ltb, List, length, sym, ap, subst}
 use Rattle.film.specs.Refusals.{given}
 use Rattle.draws.specs.Counting.{count_below}
 use Rattle.draws.specs.Draws.{DrawMeaning, Lawful}

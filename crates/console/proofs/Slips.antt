@@ -1,5 +1,5 @@
 -- A slip that was written stands at the front of the buffer. Assumes nothing.
-use Rattle.std.proofs.Common.{◌≡◌, ℕ, Bool, ltb, List, ◌++◌, length, take, drop, sym, refl, ap, ◌∙◌, subst, arith}
+use Rattle.std.proofs.Common.{◌≡◌, ℕ, ltb, List, length, take, drop, sym, refl, ap, ◌∙◌, subst, arith}
 use Rattle.std.proofs.lemmas.List.{take_at}
 use Rattle.film.specs.Refusals.{Answer, given, refused}
 use Rattle.film.specs.Schemes.{SchemeMeaning}
@@ -8,7 +8,7 @@ use Rattle.inspection.specs.Tables.{Held, size_of}
 use Rattle.inspection.proofs.Givens.{given_same, not_refused}
 use Rattle.slip.specs.Answers.{Writes, all_addressed, or_unaddressed, write_answer, write_buffer}
 use Rattle.slip.specs.Fields.{bad_frames_of, slip_bytes}
-use Rattle.console.specs.Sessions.{Phase, opened, Reply, wrote, no, passed_on, step, write_reply, slip_step, rule_of, scheme_of}
+use Rattle.console.specs.Sessions.{Phase, opened, Reply, wrote, step, write_reply, slip_step, rule_of, scheme_of}
 use Rattle.console.specs.Phases.{written_reply}
 use Rattle.console.specs.declared.request.RuleName.{RuleName}
 use Rattle.console.specs.declared.request.SchemeName.{SchemeName}

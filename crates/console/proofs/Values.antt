@@ -1,12 +1,11 @@
 -- The worked values. Assumes nothing.
-use Rattle.std.proofs.Common.{◌≡◌, ℕ, ◌<◌, ◌≤◌, min, sym, refl, ap, ◌∙◌, lit<, lit≤}
-use Rattle.film.specs.Schemes.{regular, at, located, addressed, feet35, unit_frame, unit_address}
+use Rattle.std.proofs.Common.{◌≡◌, ℕ, ◌<◌, ◌≤◌, min, sym, refl, ap, lit<, lit≤}
+use Rattle.film.specs.Schemes.{regular, at, located, addressed, unit_frame, unit_address}
 use Rattle.film.specs.declared.address.Address.{Address}
 use Rattle.film.specs.Regular.{regular_lawful, regular_in_units}
 use Rattle.film.proofs.Single.{unit_located, unit_addressed}
 use Rattle.film.specs.Refusals.{given}
 use Rattle.draws.specs.Rules.{without_replacement}
-use Rattle.plans.specs.Examples.{Examples}
 use Rattle.plans.specs.Plans.{single}
 use Rattle.plans.specs.Working.{low_of, high_of}
 use Rattle.plans.proofs.Worked.{examples}

@@ -6,7 +6,7 @@ use Rattle.film.specs.declared.address.Address.{Address}
 use Rattle.draws.specs.Draws.{DrawMeaning}
 use Rattle.draws.specs.declared.entry.Entry.{Entry}
 use Rattle.inspection.specs.Tables.{Held}
-use Rattle.inspection.specs.Answers.{Reported, Pulls, Marks, Stands, mark_answer, mark_table, mark_held}
+use Rattle.inspection.specs.Answers.{Reported, Pulls, Marks, Stands, mark_answer, mark_held}
 use Rattle.inspection.specs.declared.ticket.Mark.{Mark}
 use Rattle.inspection.specs.declared.ticket.Stub.{Stub}
 use Rattle.console.specs.Sessions.{Viewing, viewing, viewed, after_pull, after_mark, after_standing, mark_now}

@@ -1,5 +1,5 @@
 -- What the program's own replies say. Assumes nothing.
-use Rattle.std.specs.Prelude.{ℕ, List, [], ◌∷◌, ◌++◌, take, codes, decimal}
+use Rattle.std.specs.Prelude.{ℕ, List, [], ◌++◌, take, codes, decimal}
 use Rattle.console.specs.Faults.{console_text, console_refusal}
 use Rattle.console.specs.Replies.{newline}
 use Rattle.console.specs.Sessions as sessions

@@ -1,5 +1,5 @@
 -- What a line asks for, or that it asks for nothing. Assumes nothing.
-use Rattle.std.specs.Prelude.{ℕ, ◌-◌, Bool, true, false, cond, List, [], ◌∷◌, length, take, drop, Some, None, Option, ◌==◌, nat_le, slice_index}
+use Rattle.std.specs.Prelude.{ℕ, ◌-◌, cond, List, length, take, drop, Some, None, Option, ◌==◌, nat_le, slice_index}
 use Rattle.film.specs.declared.address.Address.{Address}
 use Rattle.film.specs.Schemes.{at}
 use Rattle.lines.specs.Text.{numbers_of}

@@ -1,14 +1,12 @@
 -- What a session holds, and what each line is answered. Assumes nothing.
-use Rattle.std.specs.Prelude.{ℕ, suc, Bool, cond, List, [], ◌∷◌, ◌++◌, length, replicate, Some, None, codes, Option, slice_index}
+use Rattle.std.specs.Prelude.{ℕ, List, ◌++◌, length, replicate, Some, None, codes, Option, slice_index}
 use Rattle.film.specs.Refusals.{Refusal, Answer, given, refused}
 use Rattle.film.specs.Schemes.{SchemeMeaning, feet35, feet16, timecode24}
 use Rattle.film.specs.declared.address.Address.{Address}
 use Rattle.draws.specs.Draws.{DrawMeaning}
 use Rattle.draws.specs.Rules.{without_replacement, with_replacement}
 use Rattle.draws.specs.declared.entry.Entry.{Entry}
-use Rattle.plans.specs.Plans.{PlanNumbers}
 use Rattle.plans.specs.Makes.{made}
-use Rattle.sampling.specs.Certified.{CertifiedNumbers}
 use Rattle.sampling.specs.Certifies.{certified_by}
 use Rattle.inspection.specs.Tables.{Held, blank}
 use Rattle.inspection.specs.Answers.{Reported, standing_answer, open_answer, open_table, pull_answer, pull_table, mark_answer, mark_table, mark_held}

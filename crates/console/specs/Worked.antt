@@ -1,5 +1,5 @@
 -- Worked values: addresses, counts of lists, samples, certified plans and standings, together. Assumes nothing.
-use Rattle.std.specs.Prelude.{◌≡◌, ℕ, codes}
+use Rattle.std.specs.Prelude.{◌≡◌, codes}
 use Rattle.film.specs.Refusals.{given, refuse}
 use Rattle.film.specs.Schemes.{at, located, addressed, feet35, feet16, timecode24}
 use Rattle.draws.specs.Rules.{without_replacement}

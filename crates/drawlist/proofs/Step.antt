@@ -11,7 +11,7 @@ use Rattle.lines.specs.Text.{numbers_of}
 use Rattle.drawlist.specs.declared.row.Seen.{Seen}
 use Rattle.drawlist.specs.declared.row.Tally.{Tally}
 use Rattle.drawlist.specs.Rows.{Naming, frame, not_named, no_scheme, no_address, naming, answered, named_by, name_of}
-use Rattle.drawlist.specs.Surveys.{names, first_naming, earlier, earlier_of, is_address, is_refused, is_unreadable, frames_named, Counted, Room, Tallies, Surveys}
+use Rattle.drawlist.specs.Surveys.{earlier, earlier_of, is_address, is_refused, is_unreadable, frames_named, Counted, Room, Surveys}
 use Rattle.drawlist.proofs.Named.{frames_same, frames_again, frames_more, frames_none}
 
 earlier_of_push : (before ns : List Naming) (n : Naming) → earlier_of before (ns ++ n ∷ []) ≡ earlier_of before ns ++ earlier n (before ++ ns) ∷ []

@@ -3,7 +3,7 @@ use Rattle.std.specs.Prelude.{◌≡◌, ℕ, suc, ◌+◌, ◌≤◌, Bool, tru
 use Rattle.std.specs.List.{range_with_len}
 use Rattle.drawlist.specs.declared.row.Seen.{Seen}
 use Rattle.drawlist.specs.declared.row.Tally.{Tally}
-use Rattle.drawlist.specs.Rows.{Naming, frame, not_named, no_scheme, no_address, naming, name_of}
+use Rattle.drawlist.specs.Rows.{Naming, frame, not_named, no_scheme, no_address, naming}
 
 abbrev pub names : (f : ℕ) → Naming → Bool
 names f (frame g) = g == f

@@ -1,14 +1,14 @@
 -- What an answer that is given tells of the tests before it. Assumes nothing.
-use Rattle.std.proofs.Common.{◌≡◌, ℕ, ◌+◌, ◌<◌, ◌≤◌, Bool, true, false, cond, eqb, ltb, leb, List, length, get_or, sym, refl, ap, ◌∙◌, arith}
-use Rattle.std.proofs.lemmas.Bool.{ltb-false, ltb-true, leb-false, eqb-true, and_parts, true≢false}
+use Rattle.std.proofs.Common.{◌≡◌, ℕ, ◌<◌, Bool, true, false, cond, eqb, ltb, leb, List, get_or, refl, ap, ◌∙◌, arith}
+use Rattle.std.proofs.lemmas.Bool.{ltb-true, leb-false, and_parts, true≢false}
 use Rattle.film.specs.Refusals.{Refusal, Answer, given, refused}
 use Rattle.film.specs.Schemes.{SchemeMeaning, located}
 use Rattle.film.specs.declared.address.Address.{Address}
 use Rattle.draws.specs.Draws.{DrawMeaning}
-use Rattle.draws.specs.Entries.{state_of, frame_of}
+use Rattle.draws.specs.Entries.{state_of}
 use Rattle.draws.specs.declared.entry.Entry.{Entry}
 use Rattle.inspection.specs.Tables.{Held, size_of, ticket_reel, ticket_place, ticket_frame, blank, is_out, counts_of, drawn_of}
-use Rattle.inspection.specs.Answers.{no_more, asked, pull_answer, belongs, mark_answer}
+use Rattle.inspection.specs.Answers.{no_more, asked, pull_answer, mark_answer}
 use Rattle.inspection.specs.declared.ticket.Stub.{Stub}
 
 pub given_same : {A : Type 0} (v w : A) → given v ≡ given w → v ≡ w

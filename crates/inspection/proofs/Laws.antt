@@ -1,20 +1,18 @@
 -- The law of all runs. Assumes nothing.
-use Rattle.std.proofs.Common.{◌≡◌, ℕ, ◌+◌, ◌<◌, ◌≤◌, Bool, true, false, cond, not, eqb, List, [], ◌∷◌, ◌++◌, length, get_or, take, drop, replicate, sym, refl, ap, ◌∙◌, subst, inl, inr, ⊎_elim, zero-add, arith}
+use Rattle.std.proofs.Common.{◌≡◌, ℕ, cond, not, eqb, List, [], ◌++◌, length, get_or, drop, sym, refl, ap, ◌∙◌, subst, ⊎_elim, zero-add, arith}
 use Rattle.std.proofs.lemmas.Bool.{le-ltb, cond-false}
 use Rattle.film.specs.Refusals.{Answer, given, refused}
-use Rattle.draws.specs.Counting.{count_in}
 use Rattle.draws.specs.Draws.{DrawMeaning, none}
 use Rattle.draws.specs.Entries.{state_of}
 use Rattle.draws.specs.declared.entry.Entry.{Entry}
 use Rattle.draws.specs.Tallies.{count_below_same}
-use Rattle.sampling.specs.Certified.{CertifiedNumbers}
-use Rattle.inspection.specs.Tables.{Held, size_of, blank, is_out, counts_of, table_standing}
-use Rattle.inspection.specs.Answers.{moved_on, mark_held, open_table, Pulls, Marks}
-use Rattle.inspection.specs.Runs.{Event, pull_events, mark_events, Run, start, pulls, marks, stands, tears, pulls_in, good_in, bad_in, has_mark, out_in, After, Settled, LawOfRuns}
+use Rattle.inspection.specs.Tables.{Held, size_of, blank, is_out, table_standing}
+use Rattle.inspection.specs.Answers.{mark_held, open_table}
+use Rattle.inspection.specs.Runs.{Event, pull_events, mark_events, Run, start, pulls, marks, stands, tears, pulls_in, has_mark, out_in, After, Settled, LawOfRuns}
 use Rattle.inspection.specs.declared.report.Counts.{Counts}
 use Rattle.inspection.specs.declared.ticket.Mark.{Mark}
 use Rattle.inspection.specs.declared.ticket.Stub.{Stub}
-use Rattle.inspection.proofs.Shapes.{Shape, outs, count_in_places, filled_adds, long, tallied, taken}
+use Rattle.inspection.proofs.Shapes.{outs, count_in_places, filled_adds, long, tallied, taken}
 use Rattle.inspection.proofs.Traces.{Told, told_none, Traced, drawn_now, traced_pull, traced_mark}
 
 -- the entries that are out are the pulls that no mark has

@@ -1,5 +1,5 @@
 -- The table's standing from each sample's bad frames. Assumes nothing.
-use Rattle.std.proofs.Common.{◌≡◌, ℕ, zero, suc, ◌+◌, ◌≤◌, Bool, true, false, cond, ◌&&◌, leb, List, [], ◌∷◌, ◌++◌, map, length, take, drop, Some, None, Option, sym, refl, ap, ◌∙◌, add-zero, zero-add, one-add, arith, take-add}
+use Rattle.std.proofs.Common.{◌≡◌, ℕ, zero, suc, ◌+◌, ◌≤◌, Bool, true, false, cond, ◌&&◌, leb, List, [], ◌∷◌, ◌++◌, map, length, take, drop, Some, None, Option, sym, refl, ap, ◌∙◌, zero-add, one-add, arith, take-add}
 use Rattle.std.proofs.lemmas.List.{append-nil, nil_from_length, length-map, length-take-le, length-drop, map-append, take_at, drop_at}
 use Rattle.std.proofs.lemmas.Bool.{lt-leb, leb-false}
 use Rattle.draws.specs.Counting.{count_in}
@@ -9,7 +9,7 @@ use Rattle.draws.specs.declared.entry.State.TheVariants.{Empty, Out, Good, Bad}
 use Rattle.draws.specs.declared.entry.Entry.{Entry}
 use Rattle.plans.specs.Plans.{PlanNumbers, Sample, samples_by, AgreesBy}
 use Rattle.plans.specs.Standings.{is_marked, is_bad_mark, marked_up_to, waiting, ruling, standing}
-use Rattle.inspection.specs.Settling.{one_more, add_mark, bad_if_marked, ruled_by}
+use Rattle.inspection.specs.Settling.{add_mark, bad_if_marked, ruled_by}
 use Rattle.inspection.specs.Tables.{table_standing}
 use Rattle.inspection.proofs.Stages.{marked_front}
 

@@ -1,15 +1,15 @@
 -- A pull table with some entries pulled and the others of both samples empty, and what it counts. Assumes nothing.
-use Rattle.std.proofs.Common.{◌≡◌, ℕ, zero, suc, ◌+◌, ◌-◌, ◌<◌, ◌≤◌, Bool, true, false, cond, List, [], ◌∷◌, ◌++◌, map, length, get_or, take, drop, set, replicate, sym, refl, ap, ◌∙◌, subst, ⊎_elim, zero-add, one-add, arith}
+use Rattle.std.proofs.Common.{◌≡◌, ℕ, zero, suc, ◌+◌, ◌-◌, ◌<◌, ◌≤◌, Bool, true, false, cond, List, [], ◌∷◌, ◌++◌, length, get_or, take, set, replicate, sym, refl, ap, ◌∙◌, zero-add, one-add, arith}
 use Rattle.std.specs.List.{AllByRecursion}
-use Rattle.std.proofs.lemmas.List.{append_assoc, length-append, length-replicate, length-map, take_at, get_or_append_left, get_or-append_right, get_or-replicate, drop_at}
+use Rattle.std.proofs.lemmas.List.{append_assoc, length-append, length-replicate, take_at, get_or_append_left, get_or-append_right, get_or-replicate}
 use Rattle.draws.specs.Counting.{count_in, count_below}
-use Rattle.draws.specs.Entries.{state_of, frames_of}
+use Rattle.draws.specs.Entries.{state_of}
 use Rattle.draws.specs.declared.entry.State.{State}
 use Rattle.draws.specs.declared.entry.State.TheVariants.{Empty, Out, Good, Bad}
 use Rattle.draws.specs.declared.entry.Entry.{Entry}
 use Rattle.plans.specs.Standings.{is_bad_mark}
 use Rattle.sampling.specs.Certified.{CertifiedNumbers}
-use Rattle.inspection.specs.Tables.{Held, size_of, blank, is_out, is_good, counted, tally, counts_of, drawn_of}
+use Rattle.inspection.specs.Tables.{size_of, blank, is_out, is_good, counted, tally}
 use Rattle.inspection.specs.declared.report.Counts.{Counts}
 
 abbrev pub is_pulled : State → Bool

@@ -1,11 +1,11 @@
 -- Every drawable list is viewed to its one end, and the share of those that end in a false PASS. Assumes nothing.
-use Rattle.std.proofs.Common.{◌≡◌, ℕ, zero, suc, ◌+◌, ◌*◌, ◌<◌, ◌≤◌, Bool, true, false, cond, eqb, ◌⊎◌, List, [], ◌∷◌, ◌++◌, length, drop, replicate, Decides, sym, refl, ap, ◌∙◌, subst, inl, inr, ⊎_elim, zero-add, arith}
+use Rattle.std.proofs.Common.{◌≡◌, ℕ, suc, ◌*◌, ◌≤◌, Bool, true, ◌⊎◌, List, [], ◌∷◌, ◌++◌, length, drop, replicate, Decides, sym, refl, ap, ◌∙◌, subst, inl, inr, ⊎_elim, zero-add, arith}
 use Rattle.std.specs.List.{AllByRecursion}
 use Rattle.std.proofs.ByRecursion.{All-weaker}
 use Rattle.std.proofs.lemmas.List.{append-nil, append_assoc, map-append}
 use Rattle.std.proofs.lemmas.Bool.{eqb-true, eq-eqb, lt-ltb, cond-true, and_from, cases_eq}
 use Rattle.std.proofs.lemmas.Bool.Decides.{same_from_decides}
-use Rattle.film.specs.Refusals.{Answer, given, refused}
+use Rattle.film.specs.Refusals.{given}
 use Rattle.film.specs.Schemes.{SchemeMeaning, Lawful as LawfulScheme, address_at, addressed, located}
 use Rattle.film.specs.declared.address.Address.{Address}
 use Rattle.film.proofs.Single.{addresses}
@@ -13,8 +13,8 @@ use Rattle.draws.specs.Counting.{count_in, count_below}
 use Rattle.draws.specs.Draws.{DrawMeaning, Allowed, none, more, Lawful, Reel, lists}
 use Rattle.draws.specs.declared.entry.Entry.{Entry}
 use Rattle.draws.proofs.Recurrence.{lists_allowed}
-use Rattle.plans.specs.Plans.{samples_of, total}
-use Rattle.plans.specs.Standings.{ruling, standing, true_mark, true_marks}
+use Rattle.plans.specs.Plans.{samples_of}
+use Rattle.plans.specs.Standings.{standing, true_mark, true_marks}
 use Rattle.plans.specs.Exact.{passes, all, passing}
 use Rattle.plans.specs.Limits.{Within}
 use Rattle.plans.proofs.Agreed.{total_plan, accepts_plan}
@@ -22,13 +22,12 @@ use Rattle.plans.proofs.Counts.{count_same}
 use Rattle.plans.proofs.Fewer.{guards}
 use Rattle.sampling.specs.Certified.{CertifiedNumbers, CertifiedFor}
 use Rattle.inspection.specs.Tables.{Held, size_of, blank, counts_of}
-use Rattle.inspection.specs.Answers.{open_table, pull_table, mark_table, mark_held, moved_on, Reported, Pulls, Marks, Stands}
+use Rattle.inspection.specs.Answers.{open_table, pull_table, mark_table, moved_on, Reported, Pulls, Marks, Stands}
 use Rattle.inspection.specs.Runs.{Settled}
 use Rattle.inspection.specs.Views.{judgement, Viewed, ends, views, Drawable, FalsePasses}
-use Rattle.inspection.specs.declared.ticket.Stub.{Stub}
 use Rattle.inspection.proofs.Givens.{given_same, not_refused}
 use Rattle.inspection.proofs.Stages.{settled_on, roomy, opening}
-use Rattle.inspection.proofs.Viewing.{held, so_far, Seen, ticket, sent, left, pull_accepted, mark_accepted, seen_more, standing_given}
+use Rattle.inspection.proofs.Viewing.{held, so_far, Seen, ticket, left, pull_accepted, mark_accepted, seen_more, standing_given}
 
 -- each frame in turn may follow those before it
 abbrev pub Steps : DrawMeaning → ℕ → (pre frames : List ℕ) → Type 0

@@ -1,12 +1,12 @@
 -- What the two-stage rule says while a list is being viewed: true marks, and empty entries behind. Assumes nothing.
-use Rattle.std.proofs.Common.{◌≡◌, ℕ, zero, suc, ◌+◌, ◌<◌, ◌≤◌, Bool, true, false, cond, ◌&&◌, leb, ◌⊎◌, List, [], ◌∷◌, ◌++◌, length, take, drop, replicate, sym, refl, ap, ◌∙◌, subst, inl, inr, ⊎_elim, zero-add, arith}
+use Rattle.std.proofs.Common.{◌≡◌, ℕ, zero, suc, ◌+◌, ◌<◌, ◌≤◌, Bool, true, false, cond, ◌&&◌, leb, ◌⊎◌, List, [], ◌∷◌, ◌++◌, length, take, drop, replicate, sym, refl, ap, ◌∙◌, subst, inl, inr, ⊎_elim, arith}
 use Rattle.std.proofs.lemmas.List.{length-map, length-drop, take-append-le, drop-append-le, drop-map}
 use Rattle.std.proofs.lemmas.Bool.{cases_lt, cond-true, cond-false, and_right}
 use Rattle.draws.specs.Counting.{count_in}
 use Rattle.draws.specs.Draws.{bad_in}
 use Rattle.draws.specs.declared.entry.State.{State}
 use Rattle.draws.specs.declared.entry.State.TheVariants.{Empty}
-use Rattle.plans.specs.Plans.{Sample, PlanNumbers, samples_by}
+use Rattle.plans.specs.Plans.{Sample, samples_by}
 use Rattle.plans.specs.Standings.{is_marked, is_bad_mark, marked_up_to, waiting, ruling, standing, true_mark, true_marks}
 use Rattle.plans.proofs.Rulings.{true_marked, true_bad}
 use Rattle.inspection.specs.Runs.{Settled}

@@ -1,5 +1,5 @@
 -- What the table holds after any run, traced event by event. Assumes nothing.
-use Rattle.std.proofs.Common.{◌≡◌, ℕ, zero, suc, ◌+◌, ◌<◌, ◌≤◌, Bool, true, false, cond, not, ◌||◌, eqb, List, [], ◌∷◌, ◌++◌, map, length, get_or, take, drop, set, replicate, sym, refl, ap, ◌∙◌, subst, inl, inr, ⊎_elim, zero-add, one-add, arith}
+use Rattle.std.proofs.Common.{◌≡◌, ℕ, zero, suc, ◌+◌, ◌<◌, ◌≤◌, Bool, true, false, cond, not, ◌||◌, List, [], ◌∷◌, ◌++◌, length, get_or, set, replicate, sym, refl, ap, ◌∙◌, subst, ⊎_elim, zero-add, arith}
 use Rattle.std.proofs.ByRecursion.{All-push, All-set}
 use Rattle.std.proofs.lemmas.List.{append_assoc, length_push, length-set, map_push, map-set, set-get_or, set_at, set-append_left, get_or-map, get_or_append_left, get_or_push, get_or-set_same, get_or-set_other}
 use Rattle.std.proofs.lemmas.Bool.{cases_lt, cases_eq, eq-eqb, ne_eqb, or_left, true≢false}
@@ -16,13 +16,13 @@ use Rattle.draws.specs.Tallies.{count_in_push}
 use Rattle.plans.specs.Standings.{is_bad_mark}
 use Rattle.inspection.specs.Tables.{Held, size_of, ticket_place, ticket_frame, blank, sent_out, with_state, state_for, is_out, is_good, counts_of, drawn_of}
 use Rattle.inspection.specs.Answers.{mark_held, Pulls, Marks}
-use Rattle.inspection.specs.Runs.{Event, pulled, marked, pull_events, mark_events, drawn_by, is_pull, is_good_event, is_bad_event, pulls_in, good_in, bad_in, has_mark, is_pull_at}
+use Rattle.inspection.specs.Runs.{Event, pulled, marked, pull_events, mark_events, drawn_by, is_good_event, is_bad_event, pulls_in, good_in, bad_in, has_mark, is_pull_at}
 use Rattle.inspection.specs.declared.report.Counts.{Counts}
 use Rattle.inspection.specs.declared.ticket.Mark.{Mark}
 use Rattle.inspection.specs.declared.ticket.Mark.TheVariants.{Good as GoodMark, Bad as BadMark}
 use Rattle.inspection.specs.declared.ticket.Stub.{Stub}
 use Rattle.inspection.proofs.Shapes.{Shape, is_pulled, goods, bads, count_in_set, tallied, taken, at_pulled, at_empty}
-use Rattle.inspection.proofs.Givens.{Pulled, pull_given, Marked, mark_given}
+use Rattle.inspection.proofs.Givens.{pull_given, Marked, mark_given}
 
 -- the events tell the pulled entries xs: their frames, which of them are good, bad and out
 pub record Told (events : List Event) (xs : List Entry) : Type 0 where

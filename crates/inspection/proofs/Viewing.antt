@@ -1,21 +1,19 @@
 -- One frame viewed: its pull and its true mark are accepted, and the table is as if that much of the list were viewed. Assumes nothing.
-use Rattle.std.proofs.Common.{◌≡◌, ℕ, zero, suc, ◌+◌, ◌<◌, ◌≤◌, Bool, true, false, cond, ◌&&◌, eqb, ltb, leb, ◌⊎◌, List, [], ◌∷◌, ◌++◌, map, length, get_or, take, drop, set, replicate, sym, refl, ap, ◌∙◌, subst, inl, inr, ⊎_elim, arith}
-use Rattle.std.specs.List.{AllByRecursion}
+use Rattle.std.proofs.Common.{◌≡◌, ℕ, zero, suc, ◌+◌, Bool, true, false, cond, eqb, List, [], ◌∷◌, ◌++◌, map, length, get_or, set, replicate, sym, refl, ap, ◌∙◌, subst, inl, inr, ⊎_elim, arith}
 use Rattle.std.proofs.lemmas.List.{append_assoc, length_push, length-map, length-set, map-append, map_push, set_at, get_or_at}
 use Rattle.std.proofs.lemmas.Bool.{cond-true, cond-false, le-ltb, lt-ltb, lt-leb, eq-eqb, ne_eqb, and_from}
-use Rattle.film.specs.Refusals.{Answer, given, refused}
+use Rattle.film.specs.Refusals.{given}
 use Rattle.film.specs.Schemes.{SchemeMeaning, located}
 use Rattle.film.specs.declared.address.Address.{Address}
 use Rattle.draws.specs.Draws.{DrawMeaning}
 use Rattle.draws.specs.Entries.{state_of, frame_of, frames_of}
-use Rattle.draws.specs.declared.entry.State.{State}
-use Rattle.draws.specs.declared.entry.State.TheVariants.{Empty, Out, Good, Bad}
+use Rattle.draws.specs.declared.entry.State.TheVariants.{Empty, Good, Bad}
 use Rattle.draws.specs.declared.entry.Entry.{Entry}
 use Rattle.plans.specs.Plans.{samples_of}
 use Rattle.plans.specs.Standings.{standing, true_mark, true_marks}
 use Rattle.sampling.specs.Certified.{CertifiedNumbers}
 use Rattle.inspection.specs.Tables.{Held, size_of, blank, sent_out, with_state, state_for, is_out, counts_of, drawn_of, table_standing}
-use Rattle.inspection.specs.Answers.{no_more, asked, pull_answer, pull_table, belongs, mark_answer, mark_table, moved_on, standing_answer}
+use Rattle.inspection.specs.Answers.{no_more, asked, pull_answer, pull_table, mark_answer, mark_table, moved_on, standing_answer}
 use Rattle.inspection.specs.Runs.{Settled}
 use Rattle.inspection.specs.Views.{judgement}
 use Rattle.inspection.specs.declared.report.Counts.{Counts}

@@ -1,5 +1,5 @@
 -- What each call of an inspection answers, and what it leaves. Assumes nothing.
-use Rattle.std.specs.Prelude.{◌≡◌, ℕ, ◌+◌, ◌≤◌, Bool, true, false, cond, ◌&&◌, List, ◌++◌, length, drop, replicate, codes, ◌==◌, nat_le, nat_lt, slice_index_or, slice_set}
+use Rattle.std.specs.Prelude.{◌≡◌, ℕ, ◌+◌, ◌≤◌, Bool, true, cond, ◌&&◌, List, ◌++◌, length, drop, replicate, codes, ◌==◌, nat_le, nat_lt, slice_index_or, slice_set}
 use Rattle.film.specs.Refusals.{Refusal, Answer, given, refused, refuse}
 use Rattle.film.specs.Schemes.{SchemeMeaning, located}
 use Rattle.film.specs.declared.address.Address.{Address}

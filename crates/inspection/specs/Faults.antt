@@ -1,5 +1,5 @@
 -- The refusals of the inspection layer, case by case. Assumes nothing.
-use Rattle.std.specs.Prelude.{ℕ, List, ◌++◌, codes}
+use Rattle.std.specs.Prelude.{ℕ, List, codes}
 use Rattle.film.specs.Refusals.{Refusal}
 use Rattle.film.specs.Faults.{number_of, place_of}
 use Rattle.inspection.specs.declared.fault.InspectionFault.{InspectionFault}

@@ -1,5 +1,5 @@
 -- What the values that the calls take and answer say, in plain numbers. Assumes nothing.
-use Rattle.std.specs.Prelude.{◌≡◌, Bool, false, Ok, Err, Result}
+use Rattle.std.specs.Prelude.{◌≡◌, Ok, Err, Result}
 use Rattle.film.specs.Refusals.{Answer, given, refused}
 use Rattle.sampling.specs.Certified.{certified_numbers}
 use Rattle.inspection.specs.Tables.{Held, standing_code}

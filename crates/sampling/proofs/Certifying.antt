@@ -1,11 +1,11 @@
 -- What certify promises, from what chance does. Assumes nothing.
-use Rattle.std.proofs.Common.{◌≡◌, ℕ, ◌+◌, ◌*◌, ◌<◌, ◌≤◌, Bool, true, false, cond, eqb, ltb, leb, List, length, codes, sym, refl, ap, ◌∙◌, subst, arith}
+use Rattle.std.proofs.Common.{◌≡◌, ℕ, ◌*◌, ◌<◌, ◌≤◌, Bool, true, false, cond, eqb, ltb, List, length, codes, sym, refl, ap, ◌∙◌, subst, arith}
 use Rattle.std.proofs.lemmas.Bool.{le-ltb, ne_eqb, or_from, cond-false, leb-true}
-use Rattle.film.specs.Refusals.{Refusal, Answer, given, refused, refuse}
+use Rattle.film.specs.Refusals.{Answer, given, refused, refuse}
 use Rattle.draws.specs.Counting.{count_below}
-use Rattle.draws.specs.Draws.{DrawMeaning, Reel, Lawful}
+use Rattle.draws.specs.Draws.{DrawMeaning, Lawful}
 use Rattle.plans.specs.Plans.{PlanNumbers, samples_of, Agrees}
-use Rattle.plans.specs.Working.{whole, high_of}
+use Rattle.plans.specs.Working.{whole}
 use Rattle.plans.specs.Limits.{Within, Keeps}
 use Rattle.plans.proofs.Agreed.{total_plan, accepts_plan}
 use Rattle.plans.proofs.Fewer.{guards}

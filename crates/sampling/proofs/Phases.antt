@@ -1,6 +1,6 @@
 -- Draw after draw and sample after sample worked in memory. Assumes nothing.
-use Rattle.std.proofs.Common.{◌≡◌, ℕ, zero, suc, ◌+◌, ◌*◌, ◌^◌, ◌<◌, ◌≤◌, Bool, true, false, cond, leb, List, length, sym, refl, ap, ◌∙◌, subst, add-zero, add-mul, mul-le-mul, add-one, arith}
-use Rattle.std.proofs.lemmas.Bool.{cases_lt, le-leb, lt-leb}
+use Rattle.std.proofs.Common.{◌≡◌, ℕ, zero, suc, ◌+◌, ◌*◌, ◌^◌, ◌<◌, ◌≤◌, Bool, cond, leb, List, length, sym, refl, ap, ◌∙◌, add-zero, add-mul, mul-le-mul, add-one, arith}
+use Rattle.std.proofs.lemmas.Bool.{le-leb, lt-leb}
 use Rattle.draws.specs.Draws.{DrawMeaning, Reel, Lawful}
 use Rattle.draws.proofs.Recurrence.{ways_most}
 use Rattle.plans.specs.Working.{whole, draw_on, draws_on, sum_below, cleared, start_row}

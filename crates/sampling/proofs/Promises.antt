@@ -1,8 +1,7 @@
 -- What chance, certify and smallest promise, from what their parts give. Assumes nothing.
-use Rattle.std.proofs.Common.{◌≡◌, ℕ, suc, ◌+◌, ◌*◌, ◌^◌, ◌<◌, ◌≤◌, Bool, true, false, cond, ◌||◌, eqb, ltb, List, length, codes, sym, refl, ap, ◌∙◌, subst, mul-le-mul, arith}
+use Rattle.std.proofs.Common.{◌≡◌, ℕ, suc, ◌+◌, ◌^◌, ◌<◌, ◌≤◌, Bool, true, false, cond, ◌||◌, eqb, ltb, List, length, sym, refl, ap, ◌∙◌, subst, mul-le-mul, arith}
 use Rattle.std.proofs.lemmas.Bool.{le-ltb, ltb-false, eqb-false, ne_eqb, or_from, or_parts, cond-false}
-use Rattle.film.specs.Refusals.{Refusal, Answer, given, refused, refuse}
-use Rattle.draws.specs.Counting.{count_below}
+use Rattle.film.specs.Refusals.{Refusal, Answer, given, refused}
 use Rattle.draws.specs.Draws.{DrawMeaning, Reel, Lawful}
 use Rattle.draws.proofs.Recurrence.{ways_most}
 use Rattle.plans.specs.Plans.{PlanNumbers, samples_of, total, last_accept, Agrees}

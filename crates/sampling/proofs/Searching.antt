@@ -1,12 +1,12 @@
 -- The search for the smallest sample, size after size, with both rows carried on. Assumes nothing.
-use Rattle.std.proofs.Common.{◌≡◌, ℕ, zero, suc, ◌+◌, ◌-◌, ◌*◌, ◌^◌, ◌<◌, ◌≤◌, min, Bool, true, false, cond, leb, List, length, codes, sym, refl, ap, ◌∙◌, subst, zero-add, add-one, arith}
+use Rattle.std.proofs.Common.{◌≡◌, ℕ, suc, ◌+◌, ◌-◌, ◌*◌, ◌^◌, ◌<◌, ◌≤◌, Bool, true, false, cond, List, length, codes, sym, ap, ◌∙◌, subst, zero-add, add-one, arith}
 use Rattle.std.proofs.lemmas.Bool.{lt-leb, cond-true, cond-false}
 use Rattle.film.specs.Refusals.{Answer, given, refuse}
 use Rattle.draws.specs.Draws.{DrawMeaning, Reel, Lawful}
 use Rattle.plans.specs.Plans.{single}
 use Rattle.plans.specs.Working.{whole, draws_on, sum_below, start_row, worked, worked_from0, low_of, high_of}
 use Rattle.plans.proofs.Limited.{shows}
-use Rattle.sampling.specs.Rows.{cells_of, overlaid, Roomy, Ready, Moved}
+use Rattle.sampling.specs.Rows.{cells_of, overlaid, Roomy, Moved}
 use Rattle.sampling.specs.Certifies.{is_within}
 use Rattle.sampling.specs.Searches.{last_tried, searched, stops_at, Searches}
 use Rattle.sampling.proofs.Overlays.{overlaid_again}

@@ -1,16 +1,16 @@
 -- The sample that the search gives is truly the smallest. Assumes nothing.
-use Rattle.std.proofs.Common.{◌≡◌, ℕ, zero, suc, ◌+◌, ◌*◌, ◌<◌, ◌≤◌, Bool, true, false, cond, ◌||◌, eqb, ltb, leb, List, length, codes, sym, refl, ap, ◌∙◌, subst, add-zero, add-suc, zero-add, arith}
+use Rattle.std.proofs.Common.{◌≡◌, ℕ, zero, suc, ◌+◌, ◌*◌, ◌<◌, ◌≤◌, Bool, true, false, cond, ◌||◌, eqb, ltb, List, length, codes, sym, refl, ap, ◌∙◌, subst, add-zero, zero-add, arith}
 use Rattle.std.proofs.lemmas.Bool.{le-ltb, ne_eqb, or_from, cond-false, leb-true, le-leb, both_ways}
 use Rattle.film.specs.Refusals.{Answer, given, refused, refuse}
 use Rattle.draws.specs.Counting.{count_below}
 use Rattle.draws.specs.Draws.{DrawMeaning, Reel, Lawful}
 use Rattle.plans.specs.Plans.{single}
 use Rattle.plans.specs.Working.{whole, low_of, high_of}
-use Rattle.plans.specs.Limits.{Within, Keeps, Smallest}
+use Rattle.plans.specs.Limits.{Within, Smallest}
 use Rattle.plans.proofs.Limited.{shows}
 use Rattle.sampling.specs.Chances.{no_reel}
 use Rattle.sampling.specs.Certifies.{is_within, no_tolerance, no_limit}
-use Rattle.sampling.specs.Searches.{last_tried, searched, smallest_by, smallest_row, searched_row, Truly, Smallests, Searchable, Searches}
+use Rattle.sampling.specs.Searches.{last_tried, searched, searched_row, Truly, Smallests, Searchable, Searches}
 use Rattle.sampling.proofs.Promises.{a_reel}
 
 -- a test that fails tells that the units are above the limit

@@ -1,8 +1,8 @@
 -- Rows of the working as they stand in memory. Assumes nothing.
-use Rattle.std.specs.Prelude.{◌≡◌, ℕ, suc, ◌+◌, ◌*◌, ◌^◌, ◌<◌, ◌≤◌, Bool, true, false, List, ◌++◌, map, length, drop, slice_index}
+use Rattle.std.specs.Prelude.{◌≡◌, ℕ, ◌+◌, ◌*◌, ◌^◌, ◌<◌, ◌≤◌, true, false, List, ◌++◌, map, length, drop, slice_index}
 use Rattle.std.specs.List.{range_with_len}
 use Rattle.draws.specs.Draws.{DrawMeaning, Reel}
-use Rattle.plans.specs.Working.{whole, draw_on, draws_on, sum_below}
+use Rattle.plans.specs.Working.{whole, draws_on, sum_below}
 
 -- the cells of a row in memory
 abbrev pub cells_of : List ℕ → ℕ → ℕ

@@ -1,8 +1,8 @@
 -- That the verdict on a row is true of it, from what the calls promise. Assumes nothing.
-use Rattle.std.proofs.Common.{◌≡◌, ℕ, suc, ◌+◌, ◌<◌, ◌≤◌, Bool, true, false, cond, ◌&&◌, ◌||◌, eqb, ltb, leb, ◌⊎◌, List, length, sym, refl, ap, ◌∙◌, subst, inl, inr, le_trans, le_refl, mul-le-mul_right, add-one, arith}
+use Rattle.std.proofs.Common.{◌≡◌, ℕ, suc, ◌+◌, ◌<◌, ◌≤◌, Bool, true, false, cond, ◌||◌, eqb, ltb, leb, ◌⊎◌, List, length, sym, refl, ap, ◌∙◌, subst, inl, inr, le_trans, le_refl, mul-le-mul_right, add-one, arith}
 use Rattle.std.proofs.lemmas.Bool.{eqb-true, leb-true, le-leb, and_parts, cases_order}
 use Rattle.std.proofs.lemmas.Bool.Decides.{nat_tests}
-use Rattle.film.specs.Refusals.{Refusal, Answer, given, refused}
+use Rattle.film.specs.Refusals.{Refusal, given, refused}
 use Rattle.draws.specs.Counting.{count_below}
 use Rattle.draws.specs.Draws.{DrawMeaning, Lawful, lists, bad_in}
 use Rattle.draws.specs.Rules.{with_replacement, without_replacement}
@@ -20,7 +20,6 @@ use Rattle.sampling.specs.Chances.{Chances}
 use Rattle.sampling.specs.Searches.{Truly}
 use Rattle.sampling.specs.declared.chance.Ends.{Ends}
 use Rattle.sampling.proofs.Promises.{passed, Accepted, accepted}
-use Rattle.tables.specs.Figures.{Lies}
 use Rattle.tables.specs.Verdicts.{judged, Judges, Rests, Chosen, same_number, joined}
 use Rattle.tables.specs.Rows.{EnclosedSingle, SampleSays, SampleWorked, Greatest, AcceptSays, AcceptWorked}
 use Rattle.tables.specs.declared.judging.Verdict.{Verdict}

@@ -1,4 +1,4 @@
-use Rattle.std.proofs.Common.{take, drop, Some, sym, refl, ap, ◌∙◌, add-one, arith}
+use Rattle.std.proofs.Common.{take, drop, Some, sym, ap, ◌∙◌, add-one, arith}
 use native.Mathlib.Nat.{sub-zero}
 use Rattle.std.proofs.lemmas.List.{take_rest}
 use Rattle.lines.proofs.Cuts.{cut_at, cut_none}

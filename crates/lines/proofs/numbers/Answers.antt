@@ -1,9 +1,9 @@
-use Rattle.std.proofs.Common.{◌≡◌, ◌+◌, ◌-◌, [], ◌∷◌, ◌++◌, length, take, set, Some, None, sym, ap, ◌∙◌, arith, length-set}
+use Rattle.std.proofs.Common.{◌+◌, ◌-◌, take, Some, sym, ap, ◌∙◌, arith, length-set}
 use native.Mathlib.Nat.{sub-zero}
 use lib.ListN.{length-replicate}
 use Rattle.std.specs.Option.{option_map}
 use Rattle.std.proofs.lemmas.List.{take_more_set, take_all}
-use Rattle.lines.specs.Text.{number_of, before, numbers_of}
+use Rattle.lines.specs.Text.{number_of, numbers_of}
 use Rattle.lines.proofs.Row.{after, after_none, no_rest, no_number, one_number, too_many, all_found}
 use Rattle.lines.proofs.numbers.Goals as goal
 

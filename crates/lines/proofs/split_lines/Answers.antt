@@ -1,6 +1,6 @@
 use Rattle.std.proofs.Common.{◌≡◌, ℕ, ◌<◌, List, [], ◌∷◌, ◌++◌, map, length, vec_items, sym, refl, ap, ◌∙◌, subst, append_assoc, append-nil, arith, Bor, true-eqb, false-eqb}
 use Rattle.std.proofs.lemmas.List.{map_push, nil_from_length}
-use Rattle.lines.specs.Text.{before, behind, lines_of}
+use Rattle.lines.specs.Text.{behind, lines_of}
 use Rattle.lines.proofs.Lines.{left, first_line_lem, shorter, left_now}
 use Rattle.lines.proofs.split_lines.Goals as goal
 use Rattle.lines.proofs.split_lines.Goals.{After-unwrap_or-rest}

@@ -1,12 +1,9 @@
-use Rattle.std.proofs.Common.{◌≡◌, ℕ, true, false, length, sym, refl, ap, ◌∙◌, subst}
-use Rattle.film.specs.Refusals.{Answer, given}
-use Rattle.plans.specs.Makes.{made, numbers_of}
+use Rattle.std.proofs.Common.{true, false, length, sym, refl, ap, ◌∙◌, subst}
 use Rattle.sampling.specs.Certified.{CertifiedFor, certified_numbers}
 use Rattle.sampling.specs.Certifies.{certified_by}
 use Rattle.inspection.specs.Answers.{open_answer}
 use Rattle.inspection.specs.Readings.{held_of}
 use Rattle.inspection.specs.Runs.{LawOfRuns}
-use Rattle.inspection.specs.Tables.{Held}
 use Rattle.inspection.specs.Views.{Guarded}
 use Rattle.console.specs.Begins.{passed, plan_row}
 use Rattle.console.specs.Sessions.{and_then}

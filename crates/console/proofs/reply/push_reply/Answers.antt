@@ -1,4 +1,4 @@
-use Rattle.std.proofs.Common.{◌≡◌, ℕ, List, ◌++◌, length, string_bytes, sym, ap, ◌∙◌, append_assoc}
+use Rattle.std.proofs.Common.{◌≡◌, ℕ, List, ◌++◌, length, string_bytes, ap, ◌∙◌, append_assoc}
 use Rattle.console.specs.Hex.{hex_lines}
 use Rattle.console.specs.Readings.{first_line}
 use Rattle.console.proofs.Texts.{reply_is}

@@ -1,4 +1,4 @@
-use Rattle.std.proofs.Common.{◌-◌, map, take, vec_items}
+use Rattle.std.proofs.Common.{map, take, vec_items}
 use Rattle.drawlist.specs.Rows.{name_of}
 use Rattle.drawlist.specs.Surveys.{Surveys, Room}
 use Rattle.drawlist.proofs.survey.survey.Given as goal

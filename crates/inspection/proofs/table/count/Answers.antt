@@ -1,5 +1,5 @@
 -- One entry more is counted by its state, and nothing behind an empty one.
-use Rattle.std.proofs.Common.{◌≡◌, ℕ, ◌+◌, ◌<◌, List, length, get_or, drop, sym, ap, ◌∙◌, arith}
+use Rattle.std.proofs.Common.{◌≡◌, ℕ, ◌+◌, ◌<◌, List, length, get_or, drop, ap, ◌∙◌, arith}
 use Rattle.std.proofs.lemmas.List.{at_drop_more, at_drop_all}
 use Rattle.draws.specs.Entries.{state_of}
 use Rattle.draws.specs.declared.entry.Entry.{Entry}

@@ -1,5 +1,5 @@
 -- What is not refused is worked out.
-use Rattle.std.proofs.Common.{◌+◌, ◌≤◌, arith}
+use Rattle.std.proofs.Common.{arith}
 use Rattle.plans.specs.Makes.{numbers_of}
 use Rattle.sampling.proofs.Promises.{chances}
 use Rattle.sampling.proofs.chance.chance.Goals as goal

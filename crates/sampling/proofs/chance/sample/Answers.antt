@@ -1,5 +1,5 @@
 -- The sums are those of the rows moved on, and stay small.
-use Rattle.std.proofs.Common.{◌≡◌, suc, ◌+◌, ◌^◌, ◌≤◌, true, false, length, sym, ◌∙◌, subst, arith}
+use Rattle.std.proofs.Common.{suc, ◌^◌, ◌≤◌, true, false, sym, ◌∙◌, subst, arith}
 use Rattle.sampling.proofs.Phases.{long_on}
 use Rattle.sampling.proofs.Samples.{sample_fits, sum_after}
 use Rattle.sampling.proofs.chance.sample.Goals as goal

@@ -1,5 +1,5 @@
 -- Both samples, as the working has them.
-use Rattle.std.proofs.Common.{◌≡◌, ◌+◌, true, false, sym, subst, arith}
+use Rattle.std.proofs.Common.{◌≡◌, ◌+◌, sym, subst, arith}
 use Rattle.plans.specs.Plans.{PlanNumbers}
 use Rattle.plans.specs.Makes.{numbers_of}
 use Rattle.sampling.specs.Chances.{Workable, Works}

@@ -1,5 +1,5 @@
 -- Each cell is moved as the working has it, and nothing wraps.
-use Rattle.std.proofs.Common.{◌≡◌, ◌+◌, ◌-◌, ◌<◌, ◌≤◌, true, false, sym, refl, ap, ◌∙◌, arith}
+use Rattle.std.proofs.Common.{◌-◌, true, false, ◌∙◌, arith}
 use Rattle.sampling.proofs.Moves.{at_first, partly_none, partly_more, partly_all, cell_behind, cell_first, behind_moves, first_moves}
 use Rattle.sampling.proofs.draw.draw.Goals as goal
 

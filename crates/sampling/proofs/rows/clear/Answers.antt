@@ -1,5 +1,5 @@
 -- A cell is cleared or kept.
-use Rattle.std.proofs.Common.{◌≡◌, set, sym, ap, ◌∙◌, ⊎_elim, arith}
+use Rattle.std.proofs.Common.{set, ap, ◌∙◌, ⊎_elim, arith}
 use Rattle.plans.specs.Working.{cleared}
 use Rattle.sampling.specs.Rows.{cells_of}
 use Rattle.sampling.proofs.Overlays.{overlaid_none, overlaid_keep, overlaid_set}

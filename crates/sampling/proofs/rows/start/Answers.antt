@@ -1,5 +1,5 @@
 -- The first cell holds a certainty, those behind it nothing.
-use Rattle.std.proofs.Common.{◌≡◌, ◌<◌, ◌≤◌, length, set, refl, ap, ◌∙◌, arith, length-set}
+use Rattle.std.proofs.Common.{◌≡◌, set, ap, ◌∙◌, arith, length-set}
 use Rattle.std.proofs.lemmas.List.{get_or-set_same}
 use Rattle.plans.specs.Working.{whole, start_row}
 use Rattle.sampling.specs.Rows.{overlaid}

@@ -1,5 +1,5 @@
 -- A cell more.
-use Rattle.std.proofs.Common.{◌≡◌, suc, ◌+◌, sym, ap, ◌∙◌, add-one, arith}
+use Rattle.std.proofs.Common.{suc, ap, add-one, arith}
 use Rattle.plans.specs.Working.{sum_below}
 use Rattle.plans.proofs.Sums.{sum_longer}
 use Rattle.sampling.specs.Rows.{cells_of}

@@ -1,9 +1,9 @@
 -- One size more, and the end of the search.
-use Rattle.std.proofs.Common.{◌≡◌, ◌+◌, ◌≤◌, min, true, false, cond, length, codes, sym, refl, ap, ◌∙◌, arith}
+use Rattle.std.proofs.Common.{◌≡◌, ◌+◌, min, true, false, cond, codes, sym, ap, ◌∙◌, arith}
 use native.Mathlib.Nat.{min_comm}
 use Rattle.film.specs.Refusals.{given, refuse}
 use Rattle.plans.specs.Plans.{single}
-use Rattle.plans.specs.Working.{whole, high_of, low_of}
+use Rattle.plans.specs.Working.{whole, high_of}
 use Rattle.sampling.specs.Certifies.{is_within}
 use Rattle.sampling.specs.Searches.{last_tried}
 use Rattle.sampling.proofs.Phases.{long_on}

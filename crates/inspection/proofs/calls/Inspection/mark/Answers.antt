@@ -1,6 +1,5 @@
 -- The entry is marked where the ticket says, and the standing follows from the table so marked.
-use Rattle.std.proofs.Common.{◌≡◌, get_or, set, refl, ap, ◌∙◌}
-use Rattle.draws.specs.declared.entry.Entry.{Entry}
+use Rattle.std.proofs.Common.{get_or, set, refl, ap, ◌∙◌}
 use Rattle.plans.specs.Makes.{numbers_of}
 use Rattle.plans.specs.declared.plan.Plan.{Plan}
 use Rattle.sampling.specs.Certified.{certified_numbers}

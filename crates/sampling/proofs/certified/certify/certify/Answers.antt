@@ -1,5 +1,5 @@
 -- What chance gives is small, and certified where it keeps the limit.
-use Rattle.std.proofs.Common.{◌≡◌, ◌^◌, ◌≤◌, true, false, length, Err, sym, refl, ap, ◌∙◌, subst, arith}
+use Rattle.std.proofs.Common.{false, length, Err, refl, ap, ◌∙◌, arith}
 use Rattle.std.proofs.lemmas.Result.{err_from_is_err_and, IfOk-from_err}
 use Rattle.plans.specs.Makes.{numbers_of}
 use Rattle.sampling.specs.Certifies.{certified_reading}
