@@ -1,5 +1,6 @@
 -- The output of a whole input. Assumes nothing.
-use Rattle.std.proofs.Common.{◌≡◌, ℕ, suc, ◌<◌, ◌≤◌, eqb, List, [], ◌∷◌, ◌++◌, length, take, replicate, sym, ap, ◌∙◌, ⊎_elim, arith}
+use Rattle.std.proofs.Common.{◌≡◌, ℕ, suc, ◌<◌, ◌≤◌, eqb, List, [], ◌∷◌, ◌++◌, length, take, replicate, IfOk, string_bytes, Result, String, sym, ap, ◌∙◌, ⊎_elim, arith}
+use Rattle.std.proofs.lemmas.Result.{IfOk-weaker}
 use Rattle.std.proofs.lemmas.List.{length-take-le, take_all}
 use Rattle.std.proofs.lemmas.Bool.{cases_lt, cond-true, cond-false, cond_both, lt-ltb, le-ltb}
 use Rattle.film.specs.Refusals.{refusal_text}
@@ -23,6 +24,10 @@ lines_few (b ∷ bs) =
 pub too_long_output : (input : List ℕ) → 65536 < length input → reply_text (no too_long) ≡ output_of input
 unfolding output_of
 too_long_output input h = sym (cond-true _ (refusal_text too_long ++ newline) _ (lt-ltb 65536 (length input) h))
+
+-- what tells that an input is too long is all its output
+pub too_long_told : {Z E : Type 0} (r : Result (String Z) E) (input : List ℕ) → IfOk r (λ out. string_bytes out ≡ reply_text (no too_long)) → 65536 < length input → IfOk r (λ out. string_bytes out ≡ output_of input)
+too_long_told r input told h = IfOk-weaker r _ _ (λ out e. e ∙ too_long_output input h) told
 
 pub whole_output : (input : List ℕ) (table : List Entry) (lines : List (List ℕ)) → length input ≤ 65536 → table ≡ replicate 4096 blank → lines ≡ lines_of input → output_from 1 (session begun table) lines ≡ output_of input
 unfolding output_of

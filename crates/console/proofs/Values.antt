@@ -14,10 +14,10 @@ use Rattle.sampling.specs.declared.chance.Ends.{Ends}
 use Rattle.console.specs.Worked.{Worked, one_frame}
 
 -- a frame and an address of a reel of 1,000, by the frames to the unit
-frame_at : (code F reach : ℕ) → (F-some : 0 < F) (F-few : F ≤ 256) → (a : Address) → located (regular code F reach) 1000 a ≡ unit_frame F (min 1000 reach) a
+frame_at : (code F reach : ℕ) → (F_some : 0 < F) (F_few : F ≤ 256) → (a : Address) → located (regular code F reach) 1000 a ≡ unit_frame F (min 1000 reach) a
 frame_at code F reach some few a = sym (unit_located (regular code F reach) (regular_lawful code F reach some few) 1000 F (regular_in_units code F reach) (min 1000 reach) refl a)
 
-address_at_lem : (code F reach : ℕ) → (F-some : 0 < F) (F-few : F ≤ 256) → (frame : ℕ) → addressed (regular code F reach) 1000 frame ≡ unit_address F (min 1000 reach) frame
+address_at_lem : (code F reach : ℕ) → (F_some : 0 < F) (F_few : F ≤ 256) → (frame : ℕ) → addressed (regular code F reach) 1000 frame ≡ unit_address F (min 1000 reach) frame
 address_at_lem code F reach some few frame = sym (unit_addressed (regular code F reach) (regular_lawful code F reach some few) 1000 F (regular_in_units code F reach) (min 1000 reach) refl frame)
 
 ends_are : ◌≡◌ {A = Ends} (record { lo = low_of without_replacement 10 3 (single 1 0); hi = high_of without_replacement 10 3 (single 1 0) }) (record { lo = 769658139443; hi = 769658139444 })

@@ -81,6 +81,7 @@ fn answer_all(
 }
 
 // The replies to the lines of an input, as text. More than 65,536 bytes are not read.
+#[tactic(auto, using(crate::proofs::Outputs::too_long_told))]
 pub fn run(heap: Global, input: &[u8]) -> Result<String, AllocError>
     ensures { IfOk result (λ out. string_bytes out ≡ output_of input.now) }
 {

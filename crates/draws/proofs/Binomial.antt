@@ -22,8 +22,8 @@ module _ (N D k d : ℕ) (le : D ≤ N) (lt : k < 32768) where
       nothing either = inl (vanish (choose k d) (prod (λ _. D) d) (prod (λ _. N - D) (k - d)) either)
 
       fits : d ≤ k → (D ≡ 0 → d ≡ 0) → (D ≡ N → d ≡ k) → Right
-      fits few none_bad none-good =
-          let e = gives N D k d lt few le none_bad none-good in
+      fits few none_bad none_good =
+          let e = gives N D k d lt few le none_bad none_good in
           inr (cond-true (gives_again N D k d) (N - D) 0 e, cond-true (gives_again N D k d) D 0 e)
 
       some_good : d ≤ k → (D ≡ 0 → d ≡ 0) → Right

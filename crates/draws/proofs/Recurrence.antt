@@ -90,7 +90,7 @@ module _ (m : DrawMeaning) (N : ℕ) where
           omega (arith, law.good_right N reel is_bad l allowed, law.bad_right N reel is_bad l allowed, count_below_split (m.follows N l) is_bad N, ways law reel k lt l (allowed, long))
 
       above : m.good N 0 k 0 < m.good N D k d + m.bad N D k d → (m.good N D k d ≡ 0) × (m.bad N D k d ≡ 0) → m.good N D k d + m.bad N D k d ≤ m.good N 0 k 0
-      above beyond none-there = omega arith
+      above beyond none_there = omega arith
 
   -- a test that a longer list passes only if the shorter one did
   pub push_fewer : Lawful m → Reel N → (p : List ℕ → Bool) → ((l : List ℕ) (f : ℕ) → p (l ++ f ∷ []) ≡ true → p l ≡ true)
@@ -113,14 +113,14 @@ module _ (m : DrawMeaning) (N : ℕ) where
         → ((l : List ℕ) → eqb (bad_in is_bad l + 1) d ≡ was l)
         → ((l : List ℕ) → was l ≡ true → length l ≡ k → m.bad N (count_below is_bad N) (length l) (bad_in is_bad l) ≡ B)
         → cell m N w is_bad (suc k) d ≡ cell m N w is_bad k d * m.good N (count_below is_bad N) k d + count_in (λ l. w l && was l) (lists m N k) * B
-    cell_more d was B by-bad bads = push_both _ (λ l. w l && eqb (bad_in is_bad l) d) (λ l. w l && was l) k (m.good N (count_below is_bad N) k d) B
+    cell_more d was B by_bad bads = push_both _ (λ l. w l && eqb (bad_in is_bad l) d) (λ l. w l && was l) k (m.good N (count_below is_bad N) k d) B
         (λ l h. count_below_same _ (λ f. m.follows N l f && cond (is_bad f) (w l && was l) (w l && eqb (bad_in is_bad l) d)) N (λ f _. ap (λ t. m.follows N l f && t) (grown l h.1 f (is_bad f) (count_in_push is_bad l f)))
         ∙ count_below_choice (m.follows N l) is_bad (w l && eqb (bad_in is_bad l) d) (w l && was l) N
         ∙ (λ t. when_true (w l && eqb (bad_in is_bad l) d) (goods l h) t + when_true (w l && was l) (λ e. sym (law.bad_right N reel is_bad l h.0) ∙ bads l (and_parts (w l) (was l) e).1 h.1) t))
       where
         grown : (l : List ℕ) → length l ≡ k → (f : ℕ) (b : Bool) → bad_in is_bad (l ++ f ∷ []) ≡ bad_in is_bad l + cond b 1 0
             → (w (l ++ f ∷ []) && eqb (bad_in is_bad (l ++ f ∷ [])) d) ≡ cond b (w l && was l) (w l && eqb (bad_in is_bad l) d)
-        grown l long f true e = (λ t. stays l f long t && (ap (λ n. eqb n d) e ∙ by-bad l) t)
+        grown l long f true e = (λ t. stays l f long t && (ap (λ n. eqb n d) e ∙ by_bad l) t)
         grown l long f false e = (λ t. stays l f long t && ap (λ n. eqb n d) (e ∙ add-zero (bad_in is_bad l)) t)
 
         goods : (l : List ℕ) → Drawn m N k l → (w l && eqb (bad_in is_bad l) d) ≡ true → count_below (λ f. m.follows N l f && not (is_bad f)) N ≡ m.good N (count_below is_bad N) k d

@@ -1,7 +1,7 @@
 -- What it tells that frames have their addresses.
 use Rattle.std.proofs.Common.{◌≡◌, ℕ, ◌+◌, ◌<◌, Bool, true, false, cond, ◌&&◌, ltb, List, [], ◌∷◌, ◌++◌, map, length, get_or, drop, codes, sym, refl, ap, ◌∙◌, arith}
 use Rattle.std.specs.List.{flat_map}
-use Rattle.std.proofs.lemmas.List.{at_drop_more}
+use Rattle.std.proofs.lemmas.List.{at_drop_more, map-append}
 use Rattle.std.proofs.lemmas.Bool.{and_parts, ltb-true}
 use Rattle.film.specs.Refusals.{Refusal, Answer, given, refused}
 use Rattle.film.specs.Schemes.{SchemeMeaning, Lawful, addressed, address_at}
@@ -42,10 +42,6 @@ first_addressed m N frame frames e = both_given (addressed m N frame) (all_addre
 -- what one entry adds to a slip
 abbrev pub entry_bytes : SchemeMeaning → Entry → List ℕ
 entry_bytes m e = flat_map field_bytes (map (frame_field m) (frame_if_bad e))
-
-map-append : {X Y : Type 0} (f : X → Y) (xs ys : List X) → map f (xs ++ ys) ≡ map f xs ++ map f ys
-map-append f [] ys = refl
-map-append f (x ∷ xs) ys = ap (λ rest. f x ∷ rest) (map-append f xs ys)
 
 pub entry_by_entry : (m : SchemeMeaning) (entries : List Entry) → flat_map field_bytes (map (frame_field m) (bad_frames entries)) ≡ flat_map (entry_bytes m) entries
 entry_by_entry m [] = refl

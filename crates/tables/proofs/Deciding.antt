@@ -65,7 +65,7 @@ some_lacks s f lo hi e le = by (cases_eq (rounded s lo whole) f)
 
 -- what judge promises, of a verdict by the two ends' figures
 pub judges : (s f lo hi low high : ℕ) (v : Verdict) → low ≡ rounded s lo whole → high ≡ rounded s hi whole → v ≡ by_figures f low high → Judges s f lo hi v
-judges s f lo hi low high v is-low is-high is =
+judges s f lo hi low high v is_low is_high is =
     let value : v ≡ judged s f lo hi = cc in
     record {
       value = value;

@@ -9,14 +9,14 @@ crossed : (s p b : ℕ) → 2 * p * s * b ≡ 2 * (p * b) * s
 crossed s p b = rw (mul_right_comm (2 * p) s b, mul_assoc 2 p b)
 
 pub rounded_grows : (s p a q b : ℕ) → 0 < a → 0 < b → p * b ≤ q * a → rounded s p a ≤ rounded s q b
-rounded_grows s p a q b some-a some-b le =
+rounded_grows s p a q b some_a some_b le =
     let k : ℕ = (2 * p * s + a) / (2 * a) in
     let below : k * (2 * a) * b ≤ (2 * p * s + a) * b = mul-le-mul_right b (div-mul-le_self (2 * p * s + a) (2 * a)) in
     let grown : 2 * (p * b) * s ≤ 2 * (q * a) * s = mul-le-mul_right s (mul-le-mul_left 2 le) in
     let turned : k * (2 * b) * a ≡ k * (2 * a) * b = rw (mul_assoc k (2 * b) a, mul_assoc k (2 * a) b, mul_right_comm 2 b a) in
     let both : k * (2 * b) * a ≤ (2 * q * s + b) * a =
     omega (arith, below, grown, turned, add-mul (2 * p * s) a b, add-mul (2 * q * s) b a, crossed s p b, crossed s q a, mul_comm a b) in
-    (le-div_iff_mul-le {k = 2 * b} {x = k} {y = 2 * q * s + b} (omega arith)).1 (le_of_mul-le-mul_right both some-a)
+    (le-div_iff_mul-le {k = 2 * b} {x = k} {y = 2 * q * s + b} (omega arith)).1 (le_of_mul-le-mul_right both some_a)
 
 module _ (s lo hi p a : ℕ) (l : Lies lo hi p a) where
   pub figure_above : rounded s lo whole ≤ rounded s p a

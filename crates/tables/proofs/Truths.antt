@@ -95,7 +95,7 @@ same_differs : (found n : ℕ) → same_number found n ≡ Differs → found ≡
 same_differs found n e k = grind (arith, nat_tests)
 
 module _ (row : SampleRow) (worked : WorkedSample) (rest : Ends) (y : Verdict) where
-  pub sample-worked :
+  pub sample_worked :
       worked.row ≡ row
       → Truly without_replacement 1066 row.bad 50000 0 (given worked.sample)
       → EnclosedSingle without_replacement 1066 row.bad row.sample 0 worked.passing
@@ -103,7 +103,7 @@ module _ (row : SampleRow) (worked : WorkedSample) (rest : Ends) (y : Verdict) w
       → Judges 1000000000 row.confidence rest.lo rest.hi y
       → worked.verdict ≡ joined (same_number worked.sample row.sample) y
       → SampleWorked row worked
-  sample-worked same truly encloses rests judges is =
+  sample_worked same truly encloses rests judges is =
       record {
         same = same;
         found = truly;
@@ -140,7 +140,7 @@ greatest_from m N is_bad n limit c keeps breaks =
     }
 
 module _ (row : AcceptRow) (worked : WorkedAccept) (y : Verdict) where
-  pub accept-worked :
+  pub accept_worked :
       worked.row ≡ row
       → EnclosedSingle with_replacement 1000000 1000 row.sample row.accept worked.at
       → EnclosedSingle with_replacement 1000000 1000 row.sample (row.accept + 1) worked.next
@@ -149,7 +149,7 @@ module _ (row : AcceptRow) (worked : WorkedAccept) (y : Verdict) where
       → Judges 10000 row.probability worked.passing.lo worked.passing.hi y
       → worked.verdict ≡ joined worked.greatest y
       → AcceptWorked row worked
-  accept-worked same at next own chosen judges is =
+  accept_worked same at next own chosen judges is =
       record {
         same = same;
         at_it = at;

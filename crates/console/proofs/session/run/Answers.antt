@@ -1,13 +1,9 @@
-use Rattle.std.proofs.Common.{◌≡◌, map, length, sym, ap, ◌∙◌, arith}
+use Rattle.std.proofs.Common.{◌≡◌, ◌≤◌, map, length, sym, ap, ◌∙◌, arith}
 use lib.ListN.{length-map}
 use Rattle.std.proofs.lemmas.Result.{IfOk-from_err, IfOk-weaker}
 use Rattle.lines.specs.Text.{lines_of}
-use Rattle.console.proofs.Outputs.{lines_few, too_long_output, whole_output}
+use Rattle.console.proofs.Outputs.{lines_few, whole_output}
 use Rattle.console.proofs.session.run.Goals as goal
-
-pub returns-then-input-gt-MOST_BYTES : goal.returns-then-input-gt-MOST_BYTES
-returns-then-input-gt-MOST_BYTES c =
-    IfOk-weaker c.too_long.result _ _ (λ out e. e ∙ too_long_output c.args.input.now c.if-input-gt-MOST_BYTES.true) c.too_long.ensures
 
 pub returns-in_err-high : goal.returns-in_err-high
 returns-in_err-high c = IfOk-from_err _ _ c.from_residual-in_err-high.ensures.0
@@ -29,14 +25,15 @@ answer_all-requires c =
         high_cells = c.as_mut_slice-2.ensures.len ∙ c.in_ok-high.ensures.len;
         bytes = c.as_mut_slice-4.ensures.len ∙ c.in_ok-buffer.ensures.len;
       };
-      few = omega (arith, as_many, lines_few c.args.input.now, c.if-input-gt-MOST_BYTES.false);
+      few = omega (arith, as_many, lines_few c.args.input.now);
     }
 
 pub returns : goal.returns
 returns c =
+    let few : length c.args.input.now ≤ 65536 = omega arith in
     IfOk-weaker c.answer_all.result _ _
     (λ out e. e ∙
-    whole_output c.args.input.now c.as_mut_slice-3.result.now (map (λ x. x.now) c.as_slice.result.now) c.if-input-gt-MOST_BYTES.false
+    whole_output c.args.input.now c.as_mut_slice-3.result.now (map (λ x. x.now) c.as_slice.result.now) few
     (c.as_mut_slice-3.ensures.value ∙ c.in_ok-table.ensures.items_if_clones_equal (λ y h. h))
     (ap (map (λ x. x.now)) c.as_slice.ensures.value ∙ c.in_ok-lines.ensures))
     c.answer_all.ensures
