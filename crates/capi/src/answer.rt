@@ -1,12 +1,11 @@
 // What crosses to a caller in C.
 ghost use Rattle.std.specs.Prelude.{◌≡◌};
-ghost use Rattle.film.specs.Faults.{refusal_of};
-ghost use Rattle.plans.specs.ChanceFaults.{chance_refusal};
-ghost use Rattle.plans.specs.Faults.{plan_refusal};
-ghost use Rattle.capi.specs.Crossings.{crossing, unknown_code};
+ghost use Rattle.film.specs.Refusals.{reading};
+ghost use Rattle.capi.specs.Crossings.{address_crossing, crossing, ends_crossing, number_crossing, unknown_code};
 
-use film::address::AddressFault;
-use plans::fault::{ChanceFault, PlanFault};
+use film::address::Address;
+use film::fault::Fault;
+use sampling::chance::Ends;
 
 // A refusal's number, its place and the letter of the layer that gave it; all 0 where nothing was refused.
 #[repr(C)]
@@ -41,52 +40,96 @@ pub struct AddressAnswer {
     pub part: u32,
 }
 
-pub const ANSWERED: Refused = Refused {
+const ANSWERED: Refused = Refused {
     number: 0,
     place: 0,
     layer: 0,
 };
 
-// No rule or scheme has the code.
-pub(crate) fn unknown(code: u32) -> Refused
-    ensures { result ≡ crossing (unknown_code code) }
-{
-    Refused {
-        number: 61,
-        place: code,
-        layer: b'C',
+// No rule or scheme has the code. A struct of its own: what film and draws answer is no fault of a layer.
+#[derive(Clone, Copy)]
+pub struct UnknownCode(pub u32);
+
+impl Fault for UnknownCode {
+    ghost refusal = { λ unknown. unknown_code unknown.0 };
+
+    fn number(&self) -> u32 {
+        61
+    }
+
+    fn place(&self) -> u32 {
+        self.0
+    }
+
+    fn layers(&self) -> &'static str {
+        "C"
     }
 }
 
-pub(crate) fn address_refused(fault: AddressFault) -> Refused
-    ensures { result ≡ crossing (refusal_of fault) }
+// The layers above the one that refused are not the caller's.
+fn refusal_of<F: Fault>(fault: &F) -> Refused
+    ensures { result ≡ crossing (F.refusal fault.now) }
 {
+    let layers = fault.layers().as_bytes();
     Refused {
         number: fault.number(),
         place: fault.place(),
-        layer: b'A',
+        layer: layers.first().copied().unwrap_or(0),
     }
 }
 
-pub(crate) fn chance_refused(fault: ChanceFault) -> Refused
-    ensures { result ≡ crossing (chance_refusal fault) }
-{
-    Refused {
-        number: fault.number(),
-        place: fault.place(),
-        layer: b'R',
+// One conversion a struct: C has no generic one.
+impl<F: Fault + Drop> From<Result<u32, F>> for NumberAnswer {
+    ghost from_gives = { λ found r. r ≡ number_crossing (reading F.refusal found) };
+
+    fn from(found: Result<u32, F>) -> NumberAnswer {
+        match found {
+            Ok(value) => NumberAnswer {
+                refused: ANSWERED,
+                value,
+            },
+            Err(fault) => NumberAnswer {
+                refused: refusal_of(&fault),
+                value: 0,
+            },
+        }
     }
 }
 
-pub(crate) fn plan_refused(fault: PlanFault) -> Refused
-    ensures { result ≡ crossing (plan_refusal fault) }
-{
-    match fault {
-        PlanFault::Chance(lower) => chance_refused(lower),
-        _ => Refused {
-            number: fault.number(),
-            place: fault.place(),
-            layer: b'P',
-        },
+impl<F: Fault + Drop> From<Result<Address, F>> for AddressAnswer {
+    ghost from_gives = { λ found r. r ≡ address_crossing (reading F.refusal found) };
+
+    fn from(found: Result<Address, F>) -> AddressAnswer {
+        match found {
+            Ok(Address { whole, part }) => AddressAnswer {
+                refused: ANSWERED,
+                whole,
+                part,
+            },
+            Err(fault) => AddressAnswer {
+                refused: refusal_of(&fault),
+                whole: 0,
+                part: 0,
+            },
+        }
+    }
+}
+
+impl<F: Fault + Drop> From<Result<Ends, F>> for EndsAnswer {
+    ghost from_gives = { λ found r. r ≡ ends_crossing (reading F.refusal found) };
+
+    fn from(found: Result<Ends, F>) -> EndsAnswer {
+        match found {
+            Ok(Ends { lo, hi }) => EndsAnswer {
+                refused: ANSWERED,
+                lo,
+                hi,
+            },
+            Err(fault) => EndsAnswer {
+                refused: refusal_of(&fault),
+                lo: 0,
+                hi: 0,
+            },
+        }
     }
 }

@@ -1,9 +1,6 @@
-pub mod Letters
-pub mod Joins
+pub mod Lines
 pub mod Texts
 pub mod Provings
-pub mod Viewings
-pub mod Slips
 pub mod Begun
 pub mod Turns
 pub mod Outputs

@@ -24,13 +24,19 @@ enclosed_certified m law c for is_bad e =
     subst (λ hi. Encloses m c.N is_bad S c.lo hi) (sym for.high) (subst (λ lo. Encloses m c.N is_bad S lo (high_of m c.N c.T S)) (sym for.low) there)
 
 -- an inspection that is opened is on the plan that it was given
-pub opened_on : (number : ℕ) (c : CertifiedNumbers) (table : List Entry) (h : Held) → given h ≡ open_answer number c table → h.terms ≡ c
+opened_on : (number : ℕ) (c : CertifiedNumbers) (table : List Entry) (h : Held) → given h ≡ open_answer number c table → h.terms ≡ c
 opened_on number c table h e =
     ap (λ (x : Held). x.terms) (given_same h _ (not_refused _ h (ltb (length table) (size_of c)) _ e).1)
 
-pub proved_from : (m : DrawMeaning) → Lawful m → (h : Held) (left : List Entry) → CertifiedFor m h.terms → LawOfRuns m h left → Guarded m h left → Proved m h left
-proved_from m law h left for runs guarded = record {
-  enclosed = enclosed_certified m law h.terms for;
-  share = guarded.share for;
-  runs = runs;
-}
+-- and by the rule that it was given
+module _ {R : Type 0} (meaning : R → DrawMeaning) (rule given_rule : R) (same : rule ≡ given_rule) (law : Lawful (meaning given_rule)) (number : ℕ) (c : CertifiedNumbers) (table left : List Entry) (h : Held) where
+  pub proved_from : given h ≡ open_answer number c table → CertifiedFor (meaning given_rule) c → LawOfRuns (meaning rule) h left → Guarded (meaning rule) h left → Proved (meaning given_rule) h left
+  proved_from opened certified runs guarded =
+      let m = meaning given_rule in
+      let for : CertifiedFor m h.terms = subst (CertifiedFor m) (sym (opened_on number c table h opened)) certified in
+      let share : Guarded m h left = subst (λ r. Guarded (meaning r) h left) same guarded in
+      record {
+        enclosed = enclosed_certified m law h.terms for;
+        share = share.share for;
+        runs = subst (λ r. LawOfRuns (meaning r) h left) same runs;
+      }

@@ -1,25 +1,22 @@
--- What the program's own phase says. Assumes nothing.
-use Rattle.std.specs.Prelude.{◌≡◌, ℕ, List, length, take}
-use Rattle.film.specs.Refusals.{Answer, given, refused}
-use Rattle.inspection.specs.Readings.{held_of}
+-- What the program's own session says. Assumes nothing.
+use Rattle.std.specs.Prelude.{Result}
+use Rattle.inspection.specs.Readings.{held_of, rule_of}
+use Rattle.console.specs.Readings.{answer_of}
 use Rattle.console.specs.Sessions as sessions
-use Rattle.console.specs.declared.phase.Phase.{Phase}
-use Rattle.console.specs.declared.phase.Phase.TheVariants.{Begun, Noted, Without, With}
-use Rattle.console.specs.declared.request.RuleName.TheVariants.{Without as WithoutName, With as WithName}
+use Rattle.console.specs.declared.fault.ConsoleFault.{ConsoleFault}
+use Rattle.console.specs.declared.reply.Reply.{Reply}
+use Rattle.console.specs.declared.state.Phase.{Phase}
+use Rattle.console.specs.declared.state.Phase.TheVariants.{Begun, Noted, Opened}
+use Rattle.console.specs.declared.state.Session.{Session}
 
 abbrev pub phase_of : Phase → sessions.Phase
 phase_of Begun = sessions.begun
-phase_of (Noted number frames rule) = sessions.noted number frames rule
-phase_of (Without inspection) = sessions.opened WithoutName (held_of inspection)
-phase_of (With inspection) = sessions.opened WithName (held_of inspection)
+phase_of (Noted reel) = sessions.noted reel
+phase_of (Opened inspection) = sessions.opened (rule_of inspection) (held_of inspection)
 
--- what a write is answered with, where the slip stands at the front of the buffer
-abbrev pub written_reply : (buffer : List ℕ) → Answer ℕ → sessions.Reply
-written_reply buffer (given end) = sessions.wrote (take end buffer)
-written_reply buffer (refused r) = sessions.no (sessions.passed_on r)
+abbrev pub session_of : Session → sessions.Session
+session_of s = sessions.session (phase_of s.phase) s.table.items
 
--- the memory that a session lends: 256 cells a row and 40,000 bytes for a slip
-pub record Prepared (low high buffer : List ℕ) : Type 0 where
-  pub low_cells : length low ≡ 256
-  pub high_cells : length high ≡ 256
-  pub bytes : length buffer ≡ 40000
+-- a session behind a line, and what the line was answered
+abbrev pub step_of : Session → Result Reply ConsoleFault → sessions.Step
+step_of s answer = sessions.step (phase_of s.phase) s.table.items (answer_of answer s.buffer.items)

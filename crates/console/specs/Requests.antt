@@ -1,23 +1,16 @@
 -- What a line asks for, or that it asks for nothing. Assumes nothing.
 use Rattle.std.specs.Prelude.{ℕ, ◌-◌, cond, List, length, take, drop, Some, None, Option, ◌==◌, nat_le, slice_index}
 use Rattle.film.specs.declared.address.Address.{Address}
+use Rattle.film.specs.declared.name.SchemeName.{SchemeName}
+use Rattle.film.specs.Names.{scheme_named}
 use Rattle.film.specs.Schemes.{at}
 use Rattle.lines.specs.Text.{numbers_of}
+use Rattle.draws.specs.declared.name.RuleName.{RuleName}
+use Rattle.draws.specs.Names.{rule_named}
 use Rattle.inspection.specs.declared.ticket.Mark.{Mark}
 use Rattle.inspection.specs.declared.ticket.Mark.TheVariants.{Good, Bad}
 use Rattle.console.specs.declared.request.Request.{Request}
-use Rattle.console.specs.declared.request.Request.TheVariants.{Reel, Plan, Frame, Slip}
-use Rattle.console.specs.declared.request.RuleName.{RuleName}
-use Rattle.console.specs.declared.request.RuleName.TheVariants.{Without, With}
-use Rattle.console.specs.declared.request.SchemeName.{SchemeName}
-use Rattle.console.specs.declared.request.SchemeName.TheVariants.{Film35, Film16, Seconds24}
-
--- the rules and the schemes by their codes
-abbrev pub rule_named : ℕ → Option RuleName
-rule_named code = cond (code == 1) (Some Without) (cond (code == 2) (Some With) None)
-
-abbrev pub scheme_named : ℕ → Option SchemeName
-scheme_named code = cond (code == 1) (Some Film35) (cond (code == 2) (Some Film16) (cond (code == 3) (Some Seconds24) None))
+use Rattle.console.specs.declared.request.Request.TheVariants.{Reel as ReelNoted, Plan, Frame, Slip}
 
 abbrev pub mark_named : ℕ → Option Mark
 mark_named byte = cond (byte == 103) (Some Good) (cond (byte == 98) (Some Bad) None)
@@ -25,7 +18,7 @@ mark_named byte = cond (byte == 103) (Some Good) (cond (byte == 98) (Some Bad) N
 -- r: the reel's number, its frames and the rule
 abbrev pub reel_from : ℕ → ℕ → Option RuleName → Option Request
 reel_from number frames None = None
-reel_from number frames (Some rule) = Some (Reel number frames rule)
+reel_from number frames (Some rule) = Some (ReelNoted (record { number = number; frames = frames; rule = rule }))
 
 abbrev pub reel_by : Option (List ℕ) → Option Request
 reel_by None = None

@@ -1,11 +1,14 @@
 -- What a session holds, and what each line is answered. Assumes nothing.
 use Rattle.std.specs.Prelude.{ℕ, List, ◌++◌, length, replicate, Some, None, codes, Option, slice_index}
 use Rattle.film.specs.Refusals.{Refusal, Answer, given, refused}
-use Rattle.film.specs.Schemes.{SchemeMeaning, feet35, feet16, timecode24}
+use Rattle.film.specs.Schemes.{SchemeMeaning}
+use Rattle.film.specs.Names.{scheme_of}
 use Rattle.film.specs.declared.address.Address.{Address}
+use Rattle.film.specs.declared.name.SchemeName.{SchemeName}
 use Rattle.draws.specs.Draws.{DrawMeaning}
-use Rattle.draws.specs.Rules.{without_replacement, with_replacement}
+use Rattle.draws.specs.Names.{rule_of}
 use Rattle.draws.specs.declared.entry.Entry.{Entry}
+use Rattle.draws.specs.declared.name.RuleName.{RuleName}
 use Rattle.plans.specs.Makes.{made}
 use Rattle.sampling.specs.Certifies.{certified_by}
 use Rattle.inspection.specs.Tables.{Held, blank}
@@ -14,27 +17,15 @@ use Rattle.inspection.specs.declared.ticket.Mark.{Mark}
 use Rattle.inspection.specs.declared.ticket.Stub.{Stub}
 use Rattle.slip.specs.Fields.{slip_bytes}
 use Rattle.slip.specs.Answers.{write_answer}
+use Rattle.console.specs.declared.request.Reel.{Reel}
 use Rattle.console.specs.declared.request.Request.{Request}
-use Rattle.console.specs.declared.request.Request.TheVariants.{Reel, Plan, Frame, Slip}
-use Rattle.console.specs.declared.request.RuleName.{RuleName}
-use Rattle.console.specs.declared.request.RuleName.TheVariants.{Without, With}
-use Rattle.console.specs.declared.request.SchemeName.{SchemeName}
-use Rattle.console.specs.declared.request.SchemeName.TheVariants.{Film35, Film16, Seconds24}
+use Rattle.console.specs.declared.request.Request.TheVariants.{Reel as ReelNoted, Plan, Frame, Slip}
 use Rattle.console.specs.Requests.{request_of}
-
-abbrev pub rule_of : RuleName → DrawMeaning
-rule_of Without = without_replacement
-rule_of With = with_replacement
-
-abbrev pub scheme_of : SchemeName → SchemeMeaning
-scheme_of Film35 = feet35
-scheme_of Film16 = feet16
-scheme_of Seconds24 = timecode24
 
 -- how far a session has come
 pub data Phase : Type 0 where
   begun : Phase
-  noted : (number N : ℕ) → RuleName → Phase
+  noted : Reel → Phase
   opened : RuleName → Held → Phase
 
 -- and the pull table that it lends
@@ -83,26 +74,26 @@ abbrev pub step : Phase → List Entry → Reply → Step
 step phase table reply = record { session = session phase table; reply = reply }
 
 -- r
-abbrev pub note_step : (line number N : ℕ) → RuleName → Phase → List Entry → Step
-note_step line number N rule begun table = step (noted number N rule) table fine
-note_step line number N rule (noted other M before) table = step (noted number N rule) table fine
-note_step line number N rule (opened before h) table = step (opened before h) table (no (out_of_turn line))
+abbrev pub note_step : (line : ℕ) → Reel → Phase → List Entry → Step
+note_step line reel begun table = step (noted reel) table fine
+note_step line reel (noted before) table = step (noted reel) table fine
+note_step line reel (opened rule h) table = step (opened rule h) table (no (out_of_turn line))
 
 -- p
 abbrev pub enclosed_by : Held → Reply
 enclosed_by h = bounds h.terms.lo h.terms.hi
 
-abbrev pub begin_step : (number N : ℕ) → RuleName → List Entry → Answer Held → Step
-begin_step number N rule table (given h) = step (opened rule h) (open_table table (given h)) (enclosed_by h)
-begin_step number N rule table (refused r) = step (noted number N rule) table (no (passed_on r))
+abbrev pub begin_step : Reel → List Entry → Answer Held → Step
+begin_step reel table (given h) = step (opened reel.rule h) (open_table table (given h)) (enclosed_by h)
+begin_step reel table (refused r) = step (noted reel) table (no (passed_on r))
 
-abbrev pub noted_step : (number N : ℕ) → RuleName → List ℕ → List Entry → Step
-noted_step number N rule ns table =
-    begin_step number N rule table (begin_answer (rule_of rule) number N (slice_index ns 0) (slice_index ns 1) (slice_index ns 2) (slice_index ns 3) (slice_index ns 4) (slice_index ns 5) (slice_index ns 6) 256 256 table)
+abbrev pub noted_step : Reel → List ℕ → List Entry → Step
+noted_step reel ns table =
+    begin_step reel table (begin_answer (rule_of reel.rule) reel.number reel.frames (slice_index ns 0) (slice_index ns 1) (slice_index ns 2) (slice_index ns 3) (slice_index ns 4) (slice_index ns 5) (slice_index ns 6) 256 256 table)
 
 abbrev pub plan_step : (line : ℕ) → List ℕ → Phase → List Entry → Step
 plan_step line ns begun table = step begun table (no (out_of_turn line))
-plan_step line ns (noted number N rule) table = noted_step number N rule ns table
+plan_step line ns (noted reel) table = noted_step reel ns table
 plan_step line ns (opened rule h) table = step (opened rule h) table (no (out_of_turn line))
 
 -- f: the frame is pulled, marked at once with the ticket that the pull answered, and the standing asked for
@@ -141,7 +132,7 @@ view_step rule v = step (opened rule v.held) v.table (code_reply v.answer)
 
 abbrev pub frame_step : (line : ℕ) → SchemeName → Address → Mark → Phase → List Entry → Step
 frame_step line scheme a mark begun table = step begun table (no (out_of_turn line))
-frame_step line scheme a mark (noted number N rule) table = step (noted number N rule) table (no (out_of_turn line))
+frame_step line scheme a mark (noted reel) table = step (noted reel) table (no (out_of_turn line))
 frame_step line scheme a mark (opened rule h) table = view_step rule (viewed (rule_of rule) (scheme_of scheme) h table a mark)
 
 -- s: the slip, into a buffer of 40,000 bytes
@@ -151,7 +142,7 @@ write_reply bytes (refused r) = no (passed_on r)
 
 abbrev pub slip_step : (line : ℕ) → SchemeName → Phase → List Entry → Step
 slip_step line scheme begun table = step begun table (no (out_of_turn line))
-slip_step line scheme (noted number N rule) table = step (noted number N rule) table (no (out_of_turn line))
+slip_step line scheme (noted reel) table = step (noted reel) table (no (out_of_turn line))
 slip_step line scheme (opened rule h) table =
     step (opened rule h) table
     (write_reply (slip_bytes (rule_of rule).code (scheme_of scheme) h table)
@@ -160,7 +151,7 @@ slip_step line scheme (opened rule h) table =
 -- what a line that asks for this is answered
 abbrev pub request_step : (line : ℕ) → Option Request → Session → Step
 request_step line None s = record { session = s; reply = no (unreadable line) }
-request_step line (Some (Reel number N rule)) s = note_step line number N rule s.phase s.table
+request_step line (Some (ReelNoted reel)) s = note_step line reel s.phase s.table
 request_step line (Some (Plan ns)) s = plan_step line ns s.phase s.table
 request_step line (Some (Frame scheme a mark)) s = frame_step line scheme a mark s.phase s.table
 request_step line (Some (Slip scheme)) s = slip_step line scheme s.phase s.table

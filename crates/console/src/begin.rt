@@ -48,6 +48,5 @@ pub fn begin<R: DrawRule + Drop>(
         low,
         high,
     )?;
-    let opened = open(terms.number, certified, table)?;
-    Ok(opened)
+    Ok(open(terms.number, certified, table)?)
 }

@@ -8,7 +8,7 @@ use plans::fault::PlanFault;
 use slip::fault::SlipFault;
 use std::fmt;
 
-#[derive(Clone, Copy, PartialEq, Debug)]
+#[derive(Clone, Copy, PartialEq, Eq, Debug)]
 pub enum ConsoleFault {
     // the line, by its number, cannot be read, or names no rule or scheme
     Unreadable(u32),
@@ -45,7 +45,7 @@ impl From<SlipFault> for ConsoleFault {
     }
 }
 
-// A lower layer's refusal is written as it is, and the program's letter behind it.
+// A lower layer's refusal as it is, with the program's letter behind it; as a `Fault` it would name all their letters again.
 impl fmt::Display for ConsoleFault {
     ghost output = { λ fault. Some (console_text fault) };
 

@@ -1,51 +1,25 @@
 // Bytes in hexadecimal, 32 to a line.
-ghost use Rattle.std.specs.Prelude.{◌≡◌, ◌<◌, [], ◌∷◌, ◌++◌, string_bytes, OnOk};
-ghost use Rattle.console.specs.Hex.{hex_digit, hex_of, ending, hex_lines};
+ghost use Rattle.std.specs.Prelude.{◌≡◌, ◌++◌, string_bytes, OnOk};
+ghost use Rattle.std.specs.List.{flat_map};
+ghost use Rattle.console.specs.Hex.{hex_of, hex_lines};
 
 use std::alloc::AllocError;
 
 pub fn push_hex_lines(out: &mut String, bytes: &[u8]) -> Result<(), AllocError>
     ensures { OnOk result (string_bytes out.new ≡ string_bytes out.old ++ hex_lines bytes.now) }
 {
-    for (i, byte) in bytes.iter().enumerate() {
-        push_hex(out, *byte)?;
-        push_ending(out, i, bytes.len())?;
+    for line in bytes.chunks(32) {
+        push_hex(out, line)?;
+        out.push('\n')?;
     }
     Ok(())
 }
 
-fn push_hex(out: &mut String, byte: u8) -> Result<(), AllocError>
-    ensures { OnOk result (string_bytes out.new ≡ string_bytes out.old ++ hex_of byte) }
+fn push_hex(out: &mut String, bytes: &[u8]) -> Result<(), AllocError>
+    ensures { OnOk result (string_bytes out.new ≡ string_bytes out.old ++ flat_map hex_of bytes.now) }
 {
-    push_digit(out, byte / 16)?;
-    push_digit(out, byte % 16)?;
-    Ok(())
-}
-
-fn push_digit(out: &mut String, n: u8) -> Result<(), AllocError>
-    requires { n < 16 }
-    ensures { OnOk result (string_bytes out.new ≡ string_bytes out.old ++ hex_digit n ∷ []) }
-{
-    out.push(digit(n))
-}
-
-fn push_ending(out: &mut String, i: usize, count: usize) -> Result<(), AllocError>
-    requires { i < count }
-    ensures { OnOk result (string_bytes out.new ≡ string_bytes out.old ++ ending i count) }
-{
-    if i % 32 == 31 || i + 1 == count {
-        return out.push('\n');
+    for byte in bytes {
+        write!(out, "{byte:02x}")?;
     }
     Ok(())
-}
-
-fn digit(n: u8) -> char
-    requires { n < 16 }
-    ensures { result ≡ hex_digit n }
-{
-    if n < 10 {
-        (b'0' + n) as char
-    } else {
-        (b'a' + (n - 10)) as char
-    }
 }

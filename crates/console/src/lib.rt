@@ -2,14 +2,14 @@
 #![tactic(auto)]
 
 pub mod begin;
+mod by_scheme;
 pub mod fault;
 mod hex;
-mod phase;
 pub mod reader;
 pub mod reply;
 pub mod request;
 pub mod session;
+mod state;
 #[cfg(test)]
 mod tests;
-mod view;
 pub mod worked;

@@ -1,10 +1,9 @@
 // Reads a line.
 ghost use Rattle.std.specs.Prelude.{◌≡◌, Some};
 ghost use Rattle.lines.specs.Text.{numbers_of};
-ghost use Rattle.console.specs.Replies.{output_of};
-ghost use Rattle.console.specs.Requests.{rule_named, scheme_named, mark_named, reel_by, plan_by, frame_in, slip_by, request_of};
+ghost use Rattle.console.specs.Requests.{mark_named, reel_by, plan_by, frame_in, slip_by, request_of};
 
-use crate::request::{Request, RuleName, SchemeName};
+use crate::request::{Reel, Request, RuleName, SchemeName};
 use film::address::Address;
 use inspection::ticket::Mark;
 use lines::numbers;
@@ -25,17 +24,19 @@ pub fn read_request(line: &[u8]) -> Option<Request>
 fn read_reel(text: &[u8]) -> Option<Request>
     ensures { result ≡ reel_by (numbers_of 3 (Some text.now)) }
 {
-    let found = numbers::<3>(text)?;
-    let [number, frames, code] = found;
-    let rule = rule_named(code)?;
-    Some(Request::Reel(number, frames, rule))
+    let [number, frames, code] = numbers::<3>(text)?;
+    let rule = RuleName::try_from(code).ok()?;
+    Some(Request::Reel(Reel {
+        number,
+        frames,
+        rule,
+    }))
 }
 
 fn read_plan(text: &[u8]) -> Option<Request>
     ensures { result ≡ plan_by (numbers_of 7 (Some text.now)) }
 {
-    let found = numbers::<7>(text)?;
-    Some(Request::Plan(found))
+    numbers(text).map(Request::Plan)
 }
 
 fn read_frame(text: &[u8]) -> Option<Request>
@@ -44,9 +45,8 @@ fn read_frame(text: &[u8]) -> Option<Request>
     let [address @ .., b' ', byte] = text else {
         return None;
     };
-    let found = numbers::<3>(address)?;
-    let [code, whole, part] = found;
-    let scheme = scheme_named(code)?;
+    let [code, whole, part] = numbers::<3>(address)?;
+    let scheme = SchemeName::try_from(code).ok()?;
     let mark = mark_named(*byte)?;
     Some(Request::Frame(scheme, Address { whole, part }, mark))
 }
@@ -54,33 +54,11 @@ fn read_frame(text: &[u8]) -> Option<Request>
 fn read_slip(text: &[u8]) -> Option<Request>
     ensures { result ≡ slip_by (numbers_of 1 (Some text.now)) }
 {
-    let found = numbers::<1>(text)?;
-    let [code] = found;
-    let scheme = scheme_named(code)?;
-    Some(Request::Slip(scheme))
+    let [code] = numbers::<1>(text)?;
+    Some(Request::Slip(SchemeName::try_from(code).ok()?))
 }
 
-fn rule_named(code: u32) -> Option<RuleName>
-    ensures { result ≡ rule_named code }
-{
-    match code {
-        1 => Some(RuleName::Without),
-        2 => Some(RuleName::With),
-        _ => None,
-    }
-}
-
-fn scheme_named(code: u32) -> Option<SchemeName>
-    ensures { result ≡ scheme_named code }
-{
-    match code {
-        1 => Some(SchemeName::Film35),
-        2 => Some(SchemeName::Film16),
-        3 => Some(SchemeName::Seconds24),
-        _ => None,
-    }
-}
-
+// The letters are those of the lines; a TryFrom of the inspection's type would have to stand there.
 fn mark_named(byte: u8) -> Option<Mark>
     ensures { result ≡ mark_named byte }
 {

@@ -1,7 +1,8 @@
 // What a line is answered, and how it is printed.
-ghost use Rattle.std.specs.Prelude.{◌≡◌, ◌++◌, take, IfOk, string_bytes, OnOk};
-ghost use Rattle.console.specs.Readings.{first_line, reply_of, slip_in};
+ghost use Rattle.std.specs.Prelude.{◌≡◌, ◌++◌, string_bytes, OnOk};
+ghost use Rattle.console.specs.Readings.{reply_of};
 ghost use Rattle.console.specs.Replies.{reply_text};
+ghost use Rattle.console.specs.Sessions.{wrote};
 
 use crate::fault::ConsoleFault;
 use crate::hex::push_hex_lines;
@@ -12,58 +13,36 @@ pub enum Reply {
     Fine,
     // the ends of the enclosure of the plan that was opened
     Bounds(u64, u64),
-    // the standing's code
+    // the standing's code: a Standing would be narrower for whoever prints a reply
     Stands(u8),
     // the slip, by its length
     Wrote(usize),
     No(ConsoleFault),
 }
 
-// The first line; a slip's bytes follow it.
-fn first_line(heap: Global, reply: Reply, slip_len: usize) -> Result<String, AllocError>
-    ensures { IfOk result (λ text. string_bytes text ≡ first_line reply slip_len) }
-{
-    match reply {
-        Reply::Fine => format!(in heap; "ok\n"),
-        Reply::Bounds(lo, hi) => format!(in heap; "ok {lo} {hi}\n"),
-        Reply::Stands(code) => format!(in heap; "ok {code}\n"),
-        Reply::Wrote(_) => format!(in heap; "ok {slip_len}\n"),
-        Reply::No(fault) => format!(in heap; "{fault}\n"),
-    }
-}
-
 // Prints a reply behind what is printed already; a slip stands at the front of `buffer`.
+// `_heap` stays, since callers hand one; `out` grows by its own.
+#[tactic(auto, using(crate::proofs::Texts::text_is))]
 pub fn push_reply(
     out: &mut String,
-    heap: Global,
+    _heap: Global,
     reply: Reply,
     buffer: &[u8],
 ) -> Result<(), AllocError>
     ensures { OnOk result (string_bytes out.new ≡ string_bytes out.old ++ reply_text (reply_of reply buffer.now)) }
 {
-    let slip = slip_in(reply, buffer);
-    let first = first_line(heap, reply, slip.len())?;
-    out.push_str(first.as_str())?;
-    push_hex_lines(out, slip)?;
-    Ok(())
-}
-
-// The slip that a reply tells of, at the front of the buffer.
-fn slip_in(reply: Reply, buffer: &[u8]) -> &[u8]
-    ensures { result.now ≡ slip_in reply buffer.now }
-{
     match reply {
-        Reply::Wrote(count) => front(buffer, count),
-        _ => front(buffer, 0),
+        Reply::Fine => writeln!(out, "ok"),
+        Reply::Bounds(lo, hi) => writeln!(out, "ok {lo} {hi}"),
+        Reply::Stands(code) => writeln!(out, "ok {code}"),
+        Reply::Wrote(count) => push_slip(out, &buffer[..count.min(buffer.len())]),
+        Reply::No(fault) => writeln!(out, "{fault}"),
     }
 }
 
-// The first bytes of a buffer: as many as asked for, or all.
-fn front(buffer: &[u8], count: usize) -> &[u8]
-    ensures { result.now ≡ take count buffer.now }
+fn push_slip(out: &mut String, slip: &[u8]) -> Result<(), AllocError>
+    ensures { OnOk result (string_bytes out.new ≡ string_bytes out.old ++ reply_text (wrote slip.now)) }
 {
-    if count >= buffer.len() {
-        return buffer;
-    }
-    &buffer[0..count]
+    writeln!(out, "ok {}", slip.len())?;
+    push_hex_lines(out, slip)
 }

@@ -1,24 +1,20 @@
 // What a line can ask for.
+pub use draws::name::RuleName;
 use film::address::Address;
+pub use film::name::SchemeName;
 use inspection::ticket::Mark;
 
+// A reel as it is noted.
 #[derive(Clone, Copy)]
-pub enum RuleName {
-    Without,
-    With,
-}
-
-#[derive(Clone, Copy)]
-pub enum SchemeName {
-    Film35,
-    Film16,
-    Seconds24,
+pub struct Reel {
+    pub number: u32,
+    pub frames: u32,
+    pub rule: RuleName,
 }
 
 #[derive(Clone, Copy)]
 pub enum Request {
-    // the reel's number, its frames and the draw rule
-    Reel(u32, u32, RuleName),
+    Reel(Reel),
     // n1, Ac1, Re1, n2, Ac2, the tolerance and the limit
     Plan([u32; 7]),
     Frame(SchemeName, Address, Mark),

@@ -1,18 +1,40 @@
--- How many frames are named, with one line more. Assumes nothing.
-use Rattle.std.proofs.Common.{◌≡◌, ℕ, zero, suc, ◌+◌, ◌<◌, ◌≤◌, Bool, true, false, cond, ◌||◌, eqb, List, [], ◌∷◌, ◌++◌, is_some, Some, None, count_by, Option, sym, refl, ap, ◌∙◌, ⊎_elim, zero-add, arith}
-use Rattle.std.specs.List.{range_with_len}
+-- Which line named a frame first, and how many frames are named, with one line more. Assumes nothing.
+use Rattle.std.proofs.Common.{◌≡◌, ℕ, zero, suc, ◌+◌, ◌<◌, ◌≤◌, Bool, true, false, cond, ◌||◌, eqb, ltb, List, [], ◌∷◌, ◌++◌, length, is_some, Some, None, count_by, position, Option, sym, refl, ap, ◌∙◌, ⊎_elim, zero-add, arith, map, not, length-take, unwrap_or}
+use Rattle.std.specs.List.{range_with_len, position_or_len}
+use Rattle.std.specs.Option.{option_or}
+use Rattle.std.proofs.Math.Bool.{or-false}
+use Rattle.std.proofs.lemmas.List.Folds.{position_or_len_push, length-prefix_len}
 use Rattle.std.proofs.lemmas.List.Sums.{sum_by-cons}
-use Rattle.std.proofs.lemmas.Bool.{eq-eqb, ne_eqb, eqb-true, cases_eq, cases_Bool}
+use Rattle.std.proofs.lemmas.List.{length_push, length-map}
+use Rattle.std.proofs.lemmas.Bool.{eqb-true, cases_eq, cases_Bool}
+use Rattle.std.proofs.lemmas.Bool.Decides.{nat_tests}
 use Rattle.drawlist.specs.Rows.{Naming, frame}
-use Rattle.drawlist.specs.Surveys.{names, onward, first_naming, frames_named}
+use Rattle.drawlist.specs.Surveys.{names, first_naming, noted, frames_named}
 
-or_false : (b : Bool) → (b || false) ≡ b
-or_false true = refl
-or_false false = refl
+-- the first place that passes, with one element more
+pub position_push : {X : Type 0} (p : X → Bool) (xs : List X) (y : X) → position p (xs ++ y ∷ []) ≡ option_or (position p xs) (cond (p y) (Some (length xs)) None)
+position_push {X = X} p xs y = at (position_or_len p xs) (length xs) (p y) _ _ (position_or_len_push p xs y) (length_push xs y) (omega (arith, length-prefix_len (λ x. not (p x)) xs, length-take {A = X}))
+  where
+    at : (i n : ℕ) (b : Bool) (j m : ℕ) → j ≡ cond (eqb i n) (n + cond b 0 1) i → m ≡ n + 1 → i ≤ n → cond (ltb j m) (Some j) None ≡ option_or (cond (ltb i n) (Some i) None) (cond b (Some n) None)
+    at i n b j m e f l = grind (arith, nat_tests)
 
-or_true : (b : Bool) → (b || true) ≡ true
-or_true true = refl
-or_true false = refl
+-- and of what f makes of each element
+pub position-map : {X Y : Type 0} (p : Y → Bool) (f : X → Y) (xs : List X) → position p (map f xs) ≡ position (λ x. p (f x)) xs
+position-map p f xs = rw (length-map xs f, same xs)
+  where
+    same : (xs : List _) → position_or_len p (map f xs) ≡ position_or_len (λ x. p (f x)) xs
+    same [] = refl
+    same (x ∷ xs) = ap (λ n. cond (not (p (f x))) (1 + n) 0) (same xs)
+
+-- and each frame's first line
+pub first_more : (n : Naming) (ns : List Naming) (f : ℕ) → noted n (length ns) (λ g. first_naming g ns) f ≡ first_naming f (ns ++ n ∷ [])
+first_more n ns f = either (names f n) (first_naming f ns) (length ns) ∙ sym (position_push (names f) ns n)
+  where
+    either : (b : Bool) (o : Option ℕ) (i : ℕ) → cond b (Some (unwrap_or o i)) o ≡ option_or o (cond b (Some i) None)
+    either true None i = refl
+    either true (Some j) i = refl
+    either false None i = refl
+    either false (Some j) i = refl
 
 count_by_cons : (p : ℕ → Bool) (x : ℕ) (xs : List ℕ) → count_by p (x ∷ xs) ≡ cond (p x) 1 0 + count_by p xs
 count_by_cons p x xs = sum_by-cons (λ y. cond (p y) 1 0) x xs
@@ -25,73 +47,46 @@ module _ (p : ℕ → Bool) (f : ℕ) where
   abbrev also : ℕ → Bool
   also g = p g || eqb f g
 
-  other : (g : ℕ) → (f ≡ g → ⊥) → also g ≡ p g
-  other g ne = ap (λ b. p g || b) (ne_eqb f g ne) ∙ or_false (p g)
-
   past : (a n : ℕ) → f < a → count_by also (range_with_len a n) ≡ count_by p (range_with_len a n)
   past a zero l = refl
-  past a (suc n) l =
-      count_by_cons also a (range_with_len (a + 1) n) ∙
-      (λ i. cond (other a (λ e. omega arith) i) 1 0 + past (a + 1) n (omega arith) i) ∙
-      sym (count_by_cons p a (range_with_len (a + 1) n))
+  past a (suc n) l = let rest = past (a + 1) n (omega arith) in rw (count_by_cons also, count_by_cons p, rest) (grind (arith, nat_tests))
 
   one_more : p f ≡ false → (a n : ℕ) → a ≤ f → f < a + n → count_by also (range_with_len a n) ≡ count_by p (range_with_len a n) + 1
   one_more new a zero l h = absurd (omega arith)
   one_more new a (suc n) l h =
       ⊎_elim
-      (λ e.
-      let here : also a ≡ true = ap (λ b. p a || b) (eq-eqb f a e) ∙ or_true (p a) in
-      let before : p a ≡ false = ap p (sym e) ∙ new in
-      let x = count_by_cons also a (range_with_len (a + 1) n) ∙ (λ i. cond (here i) 1 0 + past (a + 1) n (omega arith) i) in
-      let y = count_by_cons p a (range_with_len (a + 1) n) ∙ ap (λ b. cond b 1 0 + count_by p (range_with_len (a + 1) n)) before in
-      omega arith)
-      (λ ne.
-      let x = count_by_cons also a (range_with_len (a + 1) n) ∙ (λ i. cond (other a ne i) 1 0 + one_more new (a + 1) n (omega arith) (omega arith) i) in
-      let y = count_by_cons p a (range_with_len (a + 1) n) in
-      omega arith)
+      (λ (e : f ≡ a). let here : p a ≡ false = ap p (sym e) ∙ new in let rest = past (a + 1) n (omega arith) in rw (count_by_cons also, count_by_cons p, rest) (grind (arith, nat_tests)))
+      (λ (ne : f ≡ a → ⊥). let rest = one_more new (a + 1) n (omega arith) (omega arith) in rw (count_by_cons also, count_by_cons p, rest) (grind (arith, nat_tests)))
       (cases_eq f a)
-
-some_onward : (o : Option ℕ) → is_some (onward o) ≡ is_some o
-some_onward None = refl
-some_onward (Some i) = refl
-
-chosen_some : (b : Bool) (o : Option ℕ) → is_some (cond b (Some 0) (onward o)) ≡ (b || is_some o)
-chosen_some true o = refl
-chosen_some false o = some_onward o
-
-or_assoc : (a b c : Bool) → (a || (b || c)) ≡ ((a || b) || c)
-or_assoc true b c = refl
-or_assoc false b c = refl
-
--- a frame is named by some lines and one more
-named_more : (g : ℕ) (ns : List Naming) (n : Naming) → is_some (first_naming g (ns ++ n ∷ [])) ≡ (is_some (first_naming g ns) || names g n)
-named_more g [] n = chosen_some (names g n) None ∙ or_false (names g n)
-named_more g (x ∷ ns) n =
-    chosen_some (names g x) (first_naming g (ns ++ n ∷ [])) ∙ ap (λ b. names g x || b) (named_more g ns n) ∙
-    or_assoc (names g x) (is_some (first_naming g ns)) (names g n) ∙
-    ap (λ b. b || names g n) (sym (chosen_some (names g x) (first_naming g ns)))
 
 module _ (N : ℕ) (ns : List Naming) where
   abbrev is_named : ℕ → Bool
   is_named g = is_some (first_naming g ns)
 
+  named_more : (n : Naming) (g : ℕ) → is_some (first_naming g (ns ++ n ∷ [])) ≡ (is_named g || names g n)
+  named_more n g = ap is_some (position_push (names g) ns n) ∙ either (first_naming g ns) (names g n) (length ns)
+    where
+      either : (o : Option ℕ) (b : Bool) (i : ℕ) → is_some (option_or o (cond b (Some i) None)) ≡ (is_some o || b)
+      either None true i = refl
+      either None false i = refl
+      either (Some j) b i = refl
+
   -- a line that names no frame
   pub frames_same : (n : Naming) → ((g : ℕ) → names g n ≡ false) → frames_named N (ns ++ n ∷ []) ≡ frames_named N ns
-  frames_same n none = count_by_same _ _ (range_with_len 0 N) (λ g. named_more g ns n ∙ ap (λ b. is_named g || b) (none g) ∙ or_false (is_named g))
+  frames_same n none = count_by_same _ _ (range_with_len 0 N) (λ g. named_more n g ∙ ap (λ b. is_named g || b) (none g) ∙ or-false (is_named g))
 
   -- a frame named before
   pub frames_again : (f : ℕ) → is_named f ≡ true → frames_named N (ns ++ frame f ∷ []) ≡ frames_named N ns
   frames_again f old =
-      count_by_same _ _ (range_with_len 0 N) (λ g. named_more g ns (frame f) ∙
+      count_by_same _ _ (range_with_len 0 N) (λ g. named_more (frame f) g ∙
       ⊎_elim
       (λ e. let is : is_named g ≡ true = ap is_named (sym (eqb-true f g e)) ∙ old in ap (λ b. b || eqb f g) is ∙ sym is)
-      (λ e. ap (λ b. is_named g || b) e ∙ or_false (is_named g))
+      (λ e. ap (λ b. is_named g || b) e ∙ or-false (is_named g))
       (cases_Bool (eqb f g)))
 
   -- a frame named for the first time
   pub frames_more : (f : ℕ) → f < N → is_named f ≡ false → frames_named N (ns ++ frame f ∷ []) ≡ frames_named N ns + 1
-  frames_more f l new =
-      count_by_same _ _ (range_with_len 0 N) (λ g. named_more g ns (frame f)) ∙ one_more is_named f new 0 N (omega arith) (omega arith)
+  frames_more f l new = count_by_same _ _ (range_with_len 0 N) (named_more (frame f)) ∙ one_more is_named f new 0 N (omega arith) (omega arith)
 
 pub frames_none : (N : ℕ) → frames_named N [] ≡ 0
 frames_none N = none 0 N

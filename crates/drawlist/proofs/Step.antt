@@ -1,17 +1,21 @@
 -- A survey with one line more. Assumes nothing.
-use Rattle.std.proofs.Common.{◌≡◌, ℕ, ◌+◌, ◌<◌, ◌≤◌, Bool, true, false, cond, not, eqb, List, [], ◌∷◌, ◌++◌, map, length, get_or, take, is_some, Some, None, count_by, Option, sym, refl, ap, ◌∙◌, subst, append_assoc, append-nil, add-zero, arith, Bor}
-use Rattle.std.proofs.lemmas.List.{map_push, map_more}
-use Rattle.std.proofs.lemmas.List.Sums.{sum_by_push}
-use Rattle.std.proofs.lemmas.Bool.{cond_both}
+use Rattle.std.proofs.Common.{◌≡◌, ℕ, ◌+◌, ◌<◌, ◌≤◌, Bool, true, false, cond, not, List, [], ◌∷◌, ◌++◌, map, length, get_or, take, is_some, is_none, Some, None, count_by, Option, sym, refl, ap, ◌∙◌, subst, append_assoc, append-nil, add-zero, arith, Bor}
+use Rattle.std.proofs.lemmas.List.{map_push, map_more, length-map, length-take-le}
+use Rattle.std.proofs.lemmas.List.Sums.{sum_by_push, count_by-le-length}
+use Rattle.std.proofs.lemmas.List.FromFn.{length-range_with_len}
+use Rattle.std.specs.List.{range_with_len}
+use Rattle.std.specs.Option.{option_map_or}
 use Rattle.film.specs.declared.address.Address.{Address}
 use Rattle.film.specs.Refusals.{Answer, given, refused}
-use Rattle.film.specs.Schemes.{SchemeMeaning, at, located, feet35, feet16, timecode24}
+use Rattle.film.specs.Names.{scheme_of, scheme_named}
+use Rattle.film.specs.declared.name.SchemeName.{SchemeName}
+use Rattle.film.specs.Schemes.{SchemeMeaning, at, located}
 use Rattle.film.proofs.Single.{located_found}
 use Rattle.lines.specs.Text.{numbers_of}
 use Rattle.drawlist.specs.declared.row.Seen.{Seen}
 use Rattle.drawlist.specs.declared.row.Tally.{Tally}
 use Rattle.drawlist.specs.Rows.{Naming, frame, not_named, no_scheme, no_address, naming, answered, named_by, name_of}
-use Rattle.drawlist.specs.Surveys.{earlier, earlier_of, is_address, is_refused, is_unreadable, frames_named, Counted, Room, Surveys}
+use Rattle.drawlist.specs.Surveys.{earlier, earlier_of, is_address, is_refused, is_unreadable, first_naming, frames_named, Tallies, Counted, Room, Surveys}
 use Rattle.drawlist.proofs.Named.{frames_same, frames_again, frames_more, frames_none}
 
 earlier_of_push : (before ns : List Naming) (n : Naming) → earlier_of before (ns ++ n ∷ []) ≡ earlier_of before ns ++ earlier n (before ++ ns) ∷ []
@@ -55,35 +59,29 @@ surveys_more N ns seen t after s new so below e is c = record {
   };
 }
 
-at_most_one : (b : Bool) (n : ℕ) → n ≤ 1 → cond b n 0 ≤ 1
-at_most_one true n l = l
-at_most_one false n l = omega arith
-
-pub room_more : (t after : Tally) (n : Naming) (new : Bool) (k : ℕ) → Counted t n new after → Room t k → Room after (k + 1)
-room_more t after n new k c r =
-    let one : 1 ≤ 1 = omega arith in (
-      omega (arith, c.addresses, r.0, at_most_one (is_address n) 1 one),
-      omega (arith, c.frames, r.1, at_most_one (is_address n) (cond new 1 0) (at_most_one new 1 one)),
-      omega (arith, c.refused, r.2, at_most_one (is_refused n) 1 one),
-      omega (arith, c.unreadable, r.3, at_most_one (is_unreadable n) 1 one),
-    )
+-- the counts of n lines are at most n, and at most the reel's frames
+pub room : (N n : ℕ) (ns : List Naming) (t : Tally) → Tallies N ns t → length ns ≤ n → N ≤ n → Room t n
+room N n ns t so few small = (
+  omega (arith, so.addresses, count_by-le-length is_address ns),
+  omega (arith, so.frames, count_by-le-length (λ f. is_some (first_naming f ns)) (range_with_len 0 N), length-range_with_len 0 N),
+  omega (arith, so.refused, count_by-le-length is_refused ns),
+  omega (arith, so.unreadable, count_by-le-length is_unreadable ns),
+)
 
 answered_frame : (x : Answer ℕ) (f : ℕ) → answered x ≡ frame f → x ≡ given f
 answered_frame (given g) f e = cc
-answered_frame (refused r) f e = absurd (let z : ◌≡◌ {A = ℕ} 0 1 = cc in omega arith)
+answered_frame (refused r) f e = absurd cc
 
 answered_below : (m : SchemeMeaning) (N : ℕ) (a : Address) → Below N (answered (located m N a))
 answered_below m N a f e = (located_found m N a f (answered_frame _ f e)).1
 
+scheme_below : (N code : ℕ) (a : Address) (o : Option SchemeName) → Below N (option_map_or (λ scheme. answered (located (scheme_of scheme) N a)) o (no_scheme code))
+scheme_below N code a None f e = absurd cc
+scheme_below N code a (Some scheme) f e = answered_below (scheme_of scheme) N a f e
+
 named_below : (N : ℕ) (o : Option (List ℕ)) → Below N (named_by N o)
-named_below N None = λ f e. absurd (let z : ◌≡◌ {A = ℕ} 0 1 = cc in omega arith)
-named_below N (Some ns) =
-    let a = at (get_or ns 1 0) (get_or ns 2 0) in
-    let code = get_or ns 0 0 in
-    cond_both (eqb code 1) _ _ (Below N) (λ _. answered_below feet35 N a)
-    (λ _. cond_both (eqb code 2) _ _ (Below N) (λ _. answered_below feet16 N a)
-    (λ _. cond_both (eqb code 3) _ _ (Below N) (λ _. answered_below timecode24 N a)
-    (λ _ f e. absurd (let z : ◌≡◌ {A = ℕ} 0 1 = cc in omega arith))))
+named_below N None f e = absurd cc
+named_below N (Some ns) f e = scheme_below N _ (at (get_or ns 1 0) (get_or ns 2 0)) (scheme_named (get_or ns 0 0)) f e
 
 -- a line names a frame of the reel, if any
 pub line_below : (N : ℕ) (line : List ℕ) → Below N (name_of N line)
@@ -93,12 +91,21 @@ line_below N line = named_below N (numbers_of 3 (Some line))
 abbrev pub names_of : ℕ → List (Bor (List ℕ)) → List Naming
 names_of N lines = map (λ (t : Bor (List ℕ)). name_of N t.now) lines
 
+pub names_more : (N : ℕ) (lines : List (Bor (List ℕ))) (i : ℕ) (d : Bor (List ℕ)) (n : Naming) → i < length lines → n ≡ name_of N (get_or lines i d).now → names_of N (take (i + 1) lines) ≡ names_of N (take i lines) ++ n ∷ []
+names_more N lines i d n l e = map_more (λ (t : Bor (List ℕ)). name_of N t.now) lines i d l ∙ ap (λ m. names_of N (take i lines) ++ m ∷ []) (sym e)
+
+pub length-names_of : (N i : ℕ) (lines : List (Bor (List ℕ))) → i ≤ length lines → length (names_of N (take i lines)) ≡ i
+length-names_of N i lines l = length-map (take i lines) (λ (t : Bor (List ℕ)). name_of N t.now) ∙ length-take-le i lines l
+
+pub some_none : (o : Option ℕ) → is_some o ≡ not (is_none o)
+some_none None = refl
+some_none (Some i) = refl
+
 pub line_more : (N : ℕ) (lines : List (Bor (List ℕ))) (i : ℕ) (d : Bor (List ℕ)) (seen : List Seen) (t after : Tally) (s : Seen) (new : Bool)
     → i < length lines → Surveys N (names_of N (take i lines)) seen t → naming s.row ≡ name_of N (get_or lines i d).now
-    → s.earlier ≡ earlier (naming s.row) (map (λ (x : Seen). naming x.row) seen) → is_some s.earlier ≡ not new → Counted t (naming s.row) new after
+    → s.earlier ≡ earlier (naming s.row) (names_of N (take i lines)) → is_some s.earlier ≡ not new → Counted t (naming s.row) new after
     → Surveys N (names_of N (take (i + 1) lines)) (seen ++ s ∷ []) after
 line_more N lines i d seen t after s new l so row e is c =
     let below = subst (Below N) (sym row) (line_below N (get_or lines i d).now) in
-    let more = map_more (λ (t : Bor (List ℕ)). name_of N t.now) lines i d l ∙ ap (λ n. names_of N (take i lines) ++ n ∷ []) (sym row) in
-    subst (λ ns. Surveys N ns (seen ++ s ∷ []) after) (sym more)
-    (surveys_more N (names_of N (take i lines)) seen t after s new so below (e ∙ ap (earlier (naming s.row)) so.rows) is c)
+    subst (λ ns. Surveys N ns (seen ++ s ∷ []) after) (sym (names_more N lines i d (naming s.row) l row))
+    (surveys_more N (names_of N (take i lines)) seen t after s new so below e is c)

@@ -1,12 +1,14 @@
 -- What a line of a draw list names. Assumes nothing.
-use Rattle.std.specs.Prelude.{ℕ, cond, List, Some, None, Option, ◌==◌, slice_index}
+use Rattle.std.specs.Prelude.{ℕ, List, Some, None, Ok, Err, Option, Result, codes, slice_index}
+use Rattle.std.specs.Option.{option_map_or}
 use Rattle.film.specs.declared.address.Address.{Address}
 use Rattle.film.specs.Faults.{refusal_of}
-use Rattle.film.specs.Refusals.{Refusal, Answer, given, refused}
-use Rattle.film.specs.Schemes.{at, located, feet35, feet16, timecode24}
+use Rattle.film.specs.Names.{scheme_of, scheme_named, unknown_scheme_text}
+use Rattle.film.specs.Refusals.{Refusal, Answer, given, refused, refusal_text}
+use Rattle.film.specs.Schemes.{at, located}
 use Rattle.lines.specs.Text.{numbers_of}
-use Rattle.drawlist.specs.declared.row.Row.{Row}
-use Rattle.drawlist.specs.declared.row.Row.TheVariants.{Frame, Refused, UnknownScheme, Unreadable}
+use Rattle.drawlist.specs.declared.row.RowFault.{RowFault}
+use Rattle.drawlist.specs.declared.row.RowFault.TheVariants.{Refused, UnknownScheme, Unreadable}
 
 pub data Naming : Type 0 where
   frame : ℕ → Naming
@@ -15,11 +17,17 @@ pub data Naming : Type 0 where
   no_address : Naming
 
 -- what a row of the program says
-abbrev pub naming : Row → Naming
-naming (Frame f) = frame f
-naming (Refused fault) = not_named (refusal_of fault)
-naming (UnknownScheme code) = no_scheme code
-naming Unreadable = no_address
+abbrev pub naming : Result ℕ RowFault → Naming
+naming (Ok f) = frame f
+naming (Err (Refused fault)) = not_named (refusal_of fault)
+naming (Err (UnknownScheme unknown)) = no_scheme unknown.code
+naming (Err Unreadable) = no_address
+
+-- as a fault is printed
+abbrev pub fault_text : RowFault → List ℕ
+fault_text (Refused fault) = refusal_text (refusal_of fault)
+fault_text (UnknownScheme unknown) = unknown_scheme_text unknown
+fault_text Unreadable = codes "cannot be read"
 
 abbrev pub answered : Answer ℕ → Naming
 answered (given f) = frame f
@@ -27,7 +35,7 @@ answered (refused r) = not_named r
 
 -- an address in the scheme of a code, on a reel of N frames
 abbrev pub named_in : (N code : ℕ) → Address → Naming
-named_in N code a = cond (code == 1) (answered (located feet35 N a)) (cond (code == 2) (answered (located feet16 N a)) (cond (code == 3) (answered (located timecode24 N a)) (no_scheme code)))
+named_in N code a = option_map_or (λ scheme. answered (located (scheme_of scheme) N a)) (scheme_named code) (no_scheme code)
 
 abbrev pub named_by : ℕ → Option (List ℕ) → Naming
 named_by N None = no_address

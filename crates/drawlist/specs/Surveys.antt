@@ -1,5 +1,5 @@
 -- How many frames a draw list rests on, and which lines name a frame again. Assumes nothing.
-use Rattle.std.specs.Prelude.{◌≡◌, ℕ, suc, ◌+◌, ◌≤◌, Bool, true, false, cond, List, [], ◌∷◌, ◌++◌, map, is_some, Some, None, count_by, Option, ◌==◌}
+use Rattle.std.specs.Prelude.{◌≡◌, ℕ, ◌+◌, ◌≤◌, Bool, true, false, cond, List, [], ◌∷◌, ◌++◌, map, is_some, Some, None, count_by, position, unwrap_or, Option, ◌==◌}
 use Rattle.std.specs.List.{range_with_len}
 use Rattle.drawlist.specs.declared.row.Seen.{Seen}
 use Rattle.drawlist.specs.declared.row.Tally.{Tally}
@@ -11,21 +11,24 @@ names f (not_named r) = false
 names f (no_scheme code) = false
 names f no_address = false
 
-abbrev pub onward : Option ℕ → Option ℕ
-onward None = None
-onward (Some i) = Some (suc i)
-
 -- the first of some lines that names the frame, from 0
 abbrev pub first_naming : (f : ℕ) → List Naming → Option ℕ
-first_naming f [] = None
-first_naming f (n ∷ ns) = cond (names f n) (Some 0) (onward (first_naming f ns))
+first_naming f ns = position (names f) ns
+
+-- the first line that names the frame of a line, where each frame's first line is given
+abbrev pub known : Naming → (ℕ → Option ℕ) → Option ℕ
+known (frame f) first = first f
+known (not_named r) first = None
+known (no_scheme code) first = None
+known no_address first = None
+
+-- each frame's first line, once line i is seen too
+abbrev pub noted : Naming → (i : ℕ) → (ℕ → Option ℕ) → ℕ → Option ℕ
+noted n i first f = cond (names f n) (Some (unwrap_or (first f) i)) (first f)
 
 -- the line that named a line's frame before it, if one did
 abbrev pub earlier : Naming → List Naming → Option ℕ
-earlier (frame f) before = first_naming f before
-earlier (not_named r) before = None
-earlier (no_scheme code) before = None
-earlier no_address before = None
+earlier n before = known n (λ f. first_naming f before)
 
 -- and so for each of some lines, those before the first of them being given
 abbrev pub earlier_of : (before : List Naming) → List Naming → List (Option ℕ)

@@ -1,6 +1,6 @@
 -- Drawing without replacement has the hypergeometric numbers. Assumes nothing.
-use Rattle.std.proofs.Common.{◌≡◌, ℕ, ◌-◌, ◌*◌, ◌<◌, ◌≤◌, Bool, true, false, leb, ◌⊎◌, ap, ◌∙◌, inl, inr, ⊎_elim, arith}
-use Rattle.std.proofs.lemmas.Bool.{leb-false, and_cases, cases_Bool, cond-true}
+use Rattle.std.proofs.Common.{◌≡◌, ℕ, ◌-◌, ◌*◌, ◌<◌, ◌≤◌, true, false, Bool, ◌⊎◌, ap, ◌∙◌, inl, arith}
+use Rattle.std.proofs.lemmas.Bool.Decides.{nat_tests}
 use Rattle.draws.specs.Counting.{count_below}
 use Rattle.draws.specs.Draws.{Reel, cell}
 use Rattle.draws.specs.Rules.{gives_once, without_replacement}
@@ -8,27 +8,19 @@ use Rattle.draws.specs.Closed.{factorial, choose, Hypergeometric}
 use Rattle.draws.specs.Tallies.{count_below_most}
 use Rattle.draws.proofs.Combinations.{prod, prod_same, prod_zero, prod_falling, choose_beyond, choose_factorial}
 use Rattle.draws.proofs.Products.{all_product, form, vanish, cell_product}
-use Rattle.draws.specs.Without.{gives, lawful}
+use Rattle.draws.specs.Without.{lawful}
 
 module _ (N D k d : ℕ) (le : D ≤ N) where
   -- where the rule's counts are 0 without need, no list is counted
   nothing : gives_once N D k d ≡ false → form (λ j. (N - D) - j) (λ i. D - i) k d ≡ 0
-  nothing e = vanish (choose k d) (prod (λ i. D - i) d) (prod (λ j. (N - D) - j) (k - d)) (⊎_elim
-      (λ e. inl (choose_beyond k d (leb-false d k e)))
-      (λ e. inr (⊎_elim
-      (λ e. inl (prod_zero (λ i. D - i) D d (leb-false d D e) (omega arith)))
-      (λ e. inr (⊎_elim
-      (λ e. absurd (omega (arith, leb-false D N e)))
-      (λ e. prod_zero (λ j. (N - D) - j) (N - D) (k - d) (leb-false (k - d) (N - D) e) (omega arith))
-      (and_cases (leb D N) (leb (k - d) (N - D)) e)))
-      (and_cases (leb d D) _ e)))
-      (and_cases (leb d k) _ e))
+  nothing e = vanish (choose k d) (prod (λ i. D - i) d) (prod (λ j. (N - D) - j) (k - d))
+      (grind (arith, nat_tests, choose_beyond k d, prod_zero (λ i. D - i) D d, prod_zero (λ j. (N - D) - j) (N - D) (k - d)))
 
   right : (form (λ j. (N - D) - j) (λ i. D - i) k d ≡ 0) ⊎ ((without_replacement.good N D k d ≡ (N - D) - (k - d)) × (without_replacement.bad N D k d ≡ D - d))
-  right = ⊎_elim (λ e. inr (cond-true (gives_once N D k d) ((N - D) - (k - d)) 0 e, cond-true (gives_once N D k d) (D - d) 0 e)) (λ e. inl (nothing e)) (cases_Bool (gives_once N D k d))
+  right = grind (arith, nothing)
 
 falls : (N : ℕ) → Reel N → (k : ℕ) → k ≤ N → (i : ℕ) → i < k → without_replacement.good N 0 i 0 ≡ N - i
-falls N reel k le i lt = cond-true (gives_once N 0 i 0) ((N - 0) - (i - 0)) 0 (gives N 0 i 0 (omega arith) (omega arith) (omega arith) (omega arith)) ∙ omega arith
+falls N reel k le i lt = grind (arith, nat_tests)
 
 -- in order, out of order
 regroup : (C f g p q K : ℕ) → C * (f * g) ≡ K → C * ((f * p) * (g * q)) ≡ K * (p * q)
@@ -47,5 +39,4 @@ hypergeometric = record {
 
     closed : (D G k d : ℕ) → d ≤ k → form (λ j. G - j) (λ i. D - i) k d ≡ factorial k * (choose D d * choose G (k - d))
     closed D G k d le =
-        (λ t. choose k d * (prod_falling D d t * prod_falling G (k - d) t))
-        ∙ regroup (choose k d) (factorial d) (factorial (k - d)) (choose D d) (choose G (k - d)) (factorial k) (choose_factorial k d le)
+        grind (arith, prod_falling D d, prod_falling G (k - d), regroup (choose k d) (factorial d) (factorial (k - d)) (choose D d) (choose G (k - d)) (factorial k), choose_factorial k d)

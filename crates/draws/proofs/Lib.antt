@@ -3,3 +3,4 @@ pub mod Combinations
 pub mod Products
 pub mod Hypergeometric
 pub mod Binomial
+pub mod Held

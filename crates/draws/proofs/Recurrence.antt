@@ -1,25 +1,12 @@
 -- How the numbers of allowed lists grow by one more frame, for every lawful rule. Assumes nothing.
-use Rattle.std.proofs.Common.{◌≡◌, ℕ, zero, suc, ◌+◌, ◌*◌, ◌<◌, ◌≤◌, Bool, true, false, cond, not, ◌&&◌, eqb, List, [], ◌∷◌, ◌++◌, length, sym, refl, ap, ◌∙◌, ⊎_elim, add-zero, mul-pos, mul-zero, add-one, arith}
-use lib.Dec.{eqb-suc-suc}
+use Rattle.std.proofs.Common.{◌≡◌, ℕ, zero, suc, ◌+◌, ◌*◌, ◌<◌, ◌≤◌, Bool, true, false, cond, ◌&&◌, eqb, List, [], ◌∷◌, ◌++◌, length, sym, refl, ap, ◌∙◌, mul-pos, mul-zero, arith}
 use Rattle.std.specs.List.{flat_map, AllByRecursion}
 use Rattle.std.proofs.lemmas.List.{length_push}
 use Rattle.std.proofs.ByRecursion.{All-append, All-map, All-weaker}
-use Rattle.std.proofs.lemmas.Bool.{cases_lt, both_ways, false≢true, eqb-true, ne_eqb, and_parts, and_right}
+use Rattle.std.proofs.lemmas.Bool.Decides.{nat_tests}
 use Rattle.draws.specs.Counting.{count_below, count_in, all_below}
 use Rattle.draws.specs.Draws.{DrawMeaning, Allowed, none, more, onward, lists, bad_in, cell, same_list, Enumerates, Reel, Lawful}
-use Rattle.draws.specs.Tallies.{and_true, count_below_same, count_below_less, count_below_none, count_below_at, count_below_choice, count_below_split, count_in_push, count_in_map, count_in_every, count_in_all_below, count_in_joined, count_in_joined_most}
-
-and_assoc : (a b c : Bool) → ((a && b) && c) ≡ (a && (b && c))
-and_assoc true b c = refl
-and_assoc false b c = refl
-
-not_passed : (a b : Bool) → (a ≡ true → b ≡ true) → b ≡ false → a ≡ false
-not_passed true b i e = absurd (both_ways b e (i refl))
-not_passed false b i e = refl
-
-when_true : {x y : ℕ} (b : Bool) → (b ≡ true → x ≡ y) → cond b x 0 ≡ cond b y 0
-when_true true e = e refl
-when_true false e = refl
+use Rattle.draws.specs.Tallies.{count_below_same, count_below_less, count_below_none, count_below_at, count_below_choice, count_below_split, count_in_push, count_in_map, count_in_every, count_in_all_below, count_in_joined, count_in_joined_most}
 
 -- an allowed list of k frames
 abbrev Drawn : DrawMeaning → ℕ → ℕ → List ℕ → Type 0
@@ -27,11 +14,7 @@ Drawn m N k l = Allowed m N l × (length l ≡ k)
 
 all_all_below : (q : ℕ → Bool) (n : ℕ) → AllByRecursion (λ f. q f ≡ true) (all_below q n)
 all_all_below q zero = tt
-all_all_below q (suc n) = one (q n) refl (all_all_below q n)
-  where
-    one : (b : Bool) → q n ≡ b → AllByRecursion (λ f. q f ≡ true) (all_below q n) → AllByRecursion (λ f. q f ≡ true) (cond b (n ∷ all_below q n) (all_below q n))
-    one true e rest = (e, rest)
-    one false e rest = rest
+all_all_below q (suc n) = grind (arith, all_all_below q n)
 
 all_joined : {A B : Type 0} (P : A → Type 0) (Q : B → Type 0) (f : A → List B) → ((x : A) → P x → AllByRecursion Q (f x)) → (xs : List A) → AllByRecursion P xs → AllByRecursion Q (flat_map f xs)
 all_joined P Q f h [] all = tt
@@ -64,13 +47,15 @@ module _ (m : DrawMeaning) (N : ℕ) where
   push_one p a k A each = omega (arith, push_both p a (λ _. false) k A 0 (λ l h. omega (arith, each l h)), mul-zero (count_in {A = List ℕ} (λ _. false) (lists m N k)))
 
   ways : Lawful m → Reel N → (k : ℕ) → k < m.longest N → (l : List ℕ) → Drawn m N k l → count_below (m.follows N l) N ≡ m.good N 0 k 0
-  ways law reel k lt l h = law.alike N reel l h.0 (omega (arith, h.1)) ∙ ap (λ n. m.good N 0 n 0) h.1
+  ways law reel k lt l h = grind (arith, law.alike N reel l h.0)
 
   pub all_more : Lawful m → Reel N → (k : ℕ) → k < m.longest N → length (lists m N (suc k)) ≡ length (lists m N k) * m.good N 0 k 0
-  all_more law reel k lt =
-      sym (count_in_every (lists m N (suc k)))
-      ∙ push_one (λ _. true) (λ _. true) k (m.good N 0 k 0) (λ l h. count_below_same (λ f. m.follows N l f && true) (m.follows N l) N (λ f _. and_true (m.follows N l f)) ∙ ways law reel k lt l h)
-      ∙ ap (λ n. n * m.good N 0 k 0) (count_in_every (lists m N k))
+  all_more law reel k lt = grind (
+    arith,
+    count_in_every (lists m N (suc k)),
+    count_in_every (lists m N k),
+    push_one (λ _. true) (λ _. true) k (m.good N 0 k 0) (λ l h. count_below_same (λ f. m.follows N l f && true) (m.follows N l) N (λ f _. grind arith) ∙ ways law reel k lt l h),
+  )
 
   pub all_positive : Lawful m → Reel N → (k : ℕ) → k ≤ m.longest N → 0 < length (lists m N k)
   unfolding lists
@@ -81,28 +66,26 @@ module _ (m : DrawMeaning) (N : ℕ) where
 
   -- whatever is asked, the two counts together are at most the ways on: where a list has that k and d they are those, and elsewhere 0
   pub ways_most : Lawful m → Reel N → (D k d : ℕ) → k < m.longest N → m.good N D k d + m.bad N D k d ≤ m.good N 0 k 0
-  ways_most law reel D k d lt = ⊎_elim (λ beyond. above beyond (law.none_right N D k d reel (no_list beyond))) (λ le. le) (cases_lt (m.good N 0 k 0) (m.good N D k d + m.bad N D k d))
+  ways_most law reel D k d lt = grind (arith, no_list, law.none_right N D k d reel)
     where
       no_list : m.good N 0 k 0 < m.good N D k d + m.bad N D k d → (is_bad : ℕ → Bool) (l : List ℕ) → count_below is_bad N ≡ D → Allowed m N l → length l ≡ k → bad_in is_bad l ≡ d → ⊥
       no_list beyond is_bad l e allowed long bads =
-          let same_good : m.good N (count_below is_bad N) (length l) (bad_in is_bad l) ≡ m.good N D k d = (λ t. m.good N (e t) (long t) (bads t)) in
-          let same_bad : m.bad N (count_below is_bad N) (length l) (bad_in is_bad l) ≡ m.bad N D k d = (λ t. m.bad N (e t) (long t) (bads t)) in
-          omega (arith, law.good_right N reel is_bad l allowed, law.bad_right N reel is_bad l allowed, count_below_split (m.follows N l) is_bad N, ways law reel k lt l (allowed, long))
-
-      above : m.good N 0 k 0 < m.good N D k d + m.bad N D k d → (m.good N D k d ≡ 0) × (m.bad N D k d ≡ 0) → m.good N D k d + m.bad N D k d ≤ m.good N 0 k 0
-      above beyond none_there = omega arith
+          grind (arith, law.good_right N reel is_bad l allowed, law.bad_right N reel is_bad l allowed, count_below_split (m.follows N l) is_bad N, ways law reel k lt l (allowed, long))
 
   -- a test that a longer list passes only if the shorter one did
   pub push_fewer : Lawful m → Reel N → (p : List ℕ → Bool) → ((l : List ℕ) (f : ℕ) → p (l ++ f ∷ []) ≡ true → p l ≡ true)
       → (k : ℕ) → k < m.longest N → count_in p (lists m N (suc k)) ≤ count_in p (lists m N k) * m.good N 0 k 0
   unfolding lists
   push_fewer law reel p back k lt =
-      count_in_joined_most (Drawn m N k) p (onward m N) p (m.good N 0 k 0) (λ l h. omega (arith, count_in_onward m N p l, one l (ways law reel k lt l h) (p l) refl)) (lists m N k) (lists_allowed k)
+      count_in_joined_most (Drawn m N k) p (onward m N) p (m.good N 0 k 0) (λ l h. omega (arith, count_in_onward m N p l, one l (ways law reel k lt l h))) (lists m N k) (lists_allowed k)
     where
-      one : (l : List ℕ) → count_below (m.follows N l) N ≡ m.good N 0 k 0 → (b : Bool) → p l ≡ b
-          → count_below (λ f. m.follows N l f && p (l ++ f ∷ [])) N ≤ cond b (m.good N 0 k 0) 0
-      one l all true e = omega (arith, all, count_below_less (λ f. m.follows N l f && p (l ++ f ∷ [])) (m.follows N l) N (λ f _ both. (and_parts (m.follows N l f) (p (l ++ f ∷ [])) both).0))
-      one l all false e = omega (arith, count_below_none (λ f. m.follows N l f && p (l ++ f ∷ [])) N (λ f _. and_right (m.follows N l f) (p (l ++ f ∷ [])) (not_passed (p (l ++ f ∷ [])) (p l) (back l f) e)))
+      one : (l : List ℕ) → count_below (m.follows N l) N ≡ m.good N 0 k 0 → count_below (λ f. m.follows N l f && p (l ++ f ∷ [])) N ≤ cond (p l) (m.good N 0 k 0) 0
+      one l all = grind (
+        arith,
+        count_below_less (λ f. m.follows N l f && p (l ++ f ∷ [])) (m.follows N l) N (λ f _ both. grind arith),
+        count_below_none (λ f. m.follows N l f && p (l ++ f ∷ [])) N,
+        back l,
+      )
 
   -- the cells
 
@@ -113,44 +96,37 @@ module _ (m : DrawMeaning) (N : ℕ) where
         → ((l : List ℕ) → eqb (bad_in is_bad l + 1) d ≡ was l)
         → ((l : List ℕ) → was l ≡ true → length l ≡ k → m.bad N (count_below is_bad N) (length l) (bad_in is_bad l) ≡ B)
         → cell m N w is_bad (suc k) d ≡ cell m N w is_bad k d * m.good N (count_below is_bad N) k d + count_in (λ l. w l && was l) (lists m N k) * B
-    cell_more d was B by_bad bads = push_both _ (λ l. w l && eqb (bad_in is_bad l) d) (λ l. w l && was l) k (m.good N (count_below is_bad N) k d) B
-        (λ l h. count_below_same _ (λ f. m.follows N l f && cond (is_bad f) (w l && was l) (w l && eqb (bad_in is_bad l) d)) N (λ f _. ap (λ t. m.follows N l f && t) (grown l h.1 f (is_bad f) (count_in_push is_bad l f)))
-        ∙ count_below_choice (m.follows N l) is_bad (w l && eqb (bad_in is_bad l) d) (w l && was l) N
-        ∙ (λ t. when_true (w l && eqb (bad_in is_bad l) d) (goods l h) t + when_true (w l && was l) (λ e. sym (law.bad_right N reel is_bad l h.0) ∙ bads l (and_parts (w l) (was l) e).1 h.1) t))
-      where
-        grown : (l : List ℕ) → length l ≡ k → (f : ℕ) (b : Bool) → bad_in is_bad (l ++ f ∷ []) ≡ bad_in is_bad l + cond b 1 0
-            → (w (l ++ f ∷ []) && eqb (bad_in is_bad (l ++ f ∷ [])) d) ≡ cond b (w l && was l) (w l && eqb (bad_in is_bad l) d)
-        grown l long f true e = (λ t. stays l f long t && (ap (λ n. eqb n d) e ∙ by_bad l) t)
-        grown l long f false e = (λ t. stays l f long t && ap (λ n. eqb n d) (e ∙ add-zero (bad_in is_bad l)) t)
-
-        goods : (l : List ℕ) → Drawn m N k l → (w l && eqb (bad_in is_bad l) d) ≡ true → count_below (λ f. m.follows N l f && not (is_bad f)) N ≡ m.good N (count_below is_bad N) k d
-        goods l h e =
-            let here : bad_in is_bad l ≡ d = eqb-true (bad_in is_bad l) d (and_parts (w l) (eqb (bad_in is_bad l) d) e).1 in
-            sym (law.good_right N reel is_bad l h.0) ∙ (λ t. m.good N (count_below is_bad N) (h.1 t) (here t))
+    cell_more d was B by_bad bads = push_both (λ l. w l && eqb (bad_in is_bad l) d) (λ l. w l && eqb (bad_in is_bad l) d) (λ l. w l && was l) k (m.good N (count_below is_bad N) k d) B (λ l h. grind (
+      arith,
+      nat_tests,
+      count_below_same (λ f. m.follows N l f && (w (l ++ f ∷ []) && eqb (bad_in is_bad (l ++ f ∷ [])) d)) (λ f. m.follows N l f && cond (is_bad f) (w l && was l) (w l && eqb (bad_in is_bad l) d)) N
+          (λ f _. grind (arith, nat_tests, stays l f h.1, by_bad l, count_in_push is_bad l f)),
+      count_below_choice (m.follows N l) is_bad (w l && eqb (bad_in is_bad l) d) (w l && was l) N,
+      law.good_right N reel is_bad l h.0,
+      law.bad_right N reel is_bad l h.0,
+      bads l,
+    ))
 
     pub cell_more_zero : cell m N w is_bad (suc k) 0 ≡ cell m N w is_bad k 0 * m.good N (count_below is_bad N) k 0
-    cell_more_zero = omega (arith, cell_more 0 (λ _. false) 0 (λ l. ne_eqb (bad_in is_bad l + 1) 0 (λ e. omega arith)) (λ l e _. absurd (false≢true e)), mul-zero (count_in (λ l. w l && false) (lists m N k)))
+    cell_more_zero = omega (arith, cell_more 0 (λ _. false) 0 (λ l. grind (arith, nat_tests)) (λ l e _. cc), mul-zero (count_in (λ l. w l && false) (lists m N k)))
 
     pub cell_more_suc : (d : ℕ) → cell m N w is_bad (suc k) (suc d) ≡ cell m N w is_bad k (suc d) * m.good N (count_below is_bad N) k (suc d) + cell m N w is_bad k d * m.bad N (count_below is_bad N) k d
     cell_more_suc d = cell_more (suc d) (λ l. eqb (bad_in is_bad l) d) (m.bad N (count_below is_bad N) k d)
-        (λ l. ap (λ n. eqb n (suc d)) (add-one (bad_in is_bad l)) ∙ eqb-suc-suc (bad_in is_bad l) d)
-        (λ l e long t. m.bad N (count_below is_bad N) (long t) (eqb-true (bad_in is_bad l) d e t))
+        (λ l. grind (arith, nat_tests)) (λ l e long. grind (arith, nat_tests))
 
 -- the enumeration and the predicate agree
 
 same_list_true : (x l : List ℕ) → same_list x l ≡ true → x ≡ l
 same_list_true [] [] e = refl
-same_list_true [] (y ∷ ys) e = absurd (false≢true e)
-same_list_true (x ∷ xs) [] e = absurd (false≢true e)
-same_list_true (x ∷ xs) (y ∷ ys) e =
-    let both = and_parts (eqb x y) (same_list xs ys) e in
-    (λ t. eqb-true x y both.0 t ∷ same_list_true xs ys both.1 t)
+same_list_true [] (y ∷ ys) e = cc
+same_list_true (x ∷ xs) [] e = cc
+same_list_true (x ∷ xs) (y ∷ ys) e = grind (arith, nat_tests, same_list_true xs ys)
 
 same_list_push : (x l : List ℕ) (g f : ℕ) → length x ≡ length l → same_list (x ++ g ∷ []) (l ++ f ∷ []) ≡ (same_list x l && eqb g f)
-same_list_push [] [] g f e = and_true (eqb g f)
+same_list_push [] [] g f e = grind arith
 same_list_push [] (y ∷ ys) g f e = absurd (omega arith)
 same_list_push (x ∷ xs) [] g f e = absurd (omega arith)
-same_list_push (x ∷ xs) (y ∷ ys) g f e = ap (λ t. eqb x y && t) (same_list_push xs ys g f (omega arith)) ∙ sym (and_assoc (eqb x y) (same_list xs ys) (eqb g f))
+same_list_push (x ∷ xs) (y ∷ ys) g f e = grind (arith, same_list_push xs ys g f)
 
 module _ (m : DrawMeaning) (N : ℕ) (law : Lawful m) (reel : Reel N) where
   listed_once : {l : List ℕ} → Allowed m N l → (k : ℕ) → length l ≡ k → count_in (λ x. same_list x l) (lists m N k) ≡ 1
@@ -163,13 +139,19 @@ module _ (m : DrawMeaning) (N : ℕ) (law : Lawful m) (reel : Reel N) where
       omega (
         arith,
         push_one m N (λ x. same_list x (drawn ++ frame ∷ [])) (λ x. same_list x drawn) k 1
-            (λ x h. count_below_same _ (λ g. m.follows N x g && (same_list x drawn && eqb g frame)) N (λ g _. ap (λ t. m.follows N x g && t) (same_list_push x drawn g frame (h.1 ∙ sym long))) ∙ one x (same_list x drawn) refl),
+            (λ x h. count_below_same _ (λ g. m.follows N x g && (same_list x drawn && eqb g frame)) N (λ g _. ap (λ t. m.follows N x g && t) (same_list_push x drawn g frame (h.1 ∙ sym long))) ∙ one x),
         listed_once before k long,
       )
     where
-      one : (x : List ℕ) (b : Bool) → same_list x drawn ≡ b → count_below (λ g. m.follows N x g && (b && eqb g frame)) N ≡ cond b 1 0
-      one x true e = count_below_at (m.follows N x) frame N (law.inside N reel drawn frame may) ∙ ap (λ t. cond t 1 0) (ap (λ y. m.follows N y frame) (same_list_true x drawn e) ∙ may)
-      one x false e = count_below_none (λ g. m.follows N x g && false) N (λ g _. and_right (m.follows N x g) false refl)
+      one : (x : List ℕ) → count_below (λ g. m.follows N x g && (same_list x drawn && eqb g frame)) N ≡ cond (same_list x drawn) 1 0
+      one x = grind (
+        arith,
+        same_list_true x drawn,
+        may,
+        count_below_at (m.follows N x) frame N (law.inside N reel drawn frame may),
+        count_below_none (λ g. m.follows N x g && (same_list x drawn && eqb g frame)) N,
+        count_below_same (λ g. m.follows N x g && (same_list x drawn && eqb g frame)) (λ g. m.follows N x g && eqb g frame) N,
+      )
 
   pub enumerates : Enumerates m N
   enumerates = record { listed = lists_allowed m N; once = λ k l allowed long. listed_once allowed k long }

@@ -7,3 +7,4 @@ pub mod Without
 pub mod Tallies
 pub mod Shared
 pub mod With
+pub mod Names

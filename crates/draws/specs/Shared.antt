@@ -1,12 +1,11 @@
 -- What the laws of both rules rest on: a list with any number of good and bad frames, and what one law gives another. Assumes nothing.
-use Rattle.std.specs.Prelude.{◌≡◌, ℕ, zero, suc, ◌+◌, ◌-◌, ◌<◌, ◌≤◌, Bool, true, false, cond, ◌&&◌, List, [], ◌∷◌, ◌++◌, length, ◌≢◌, nat_lt, refl}
-use Rattle.std.proofs.Common.{sym, ap, ◌∙◌}
-use native.Mathlib.Omega.{arith}
+use Rattle.std.specs.Prelude.{◌≡◌, ℕ, zero, suc, ◌+◌, ◌-◌, ◌<◌, ◌≤◌, Bool, true, false, cond, ◌&&◌, List, [], ◌∷◌, ◌++◌, length, nat_lt}
+use Rattle.std.proofs.Common.{arith}
+use Rattle.std.proofs.lemmas.Bool.Decides.{nat_tests}
 use Rattle.std.proofs.lemmas.List.{length_push}
-use Rattle.std.proofs.lemmas.Bool.{lt-ltb, le-ltb}
 use Rattle.draws.specs.Counting.{count_below, count_in}
 use Rattle.draws.specs.Draws.{DrawMeaning, Allowed, none, more, bad_in}
-use Rattle.draws.specs.Tallies.{and_true, count_below_same, count_below_none, count_in_push, count_in_none}
+use Rattle.draws.specs.Tallies.{count_below_same, count_below_none, count_in_push, count_in_none}
 
 -- n more frames behind a list
 abbrev pub grown : List ℕ → (ℕ → ℕ) → ℕ → List ℕ
@@ -19,10 +18,8 @@ module _ (l : List ℕ) (frame : ℕ → ℕ) where
   length_grown (suc n) = omega (arith, length_push (grown l frame n) (frame n), length_grown n)
 
   pub count_in_grown : (p : ℕ → Bool) (b : Bool) (n : ℕ) → ((i : ℕ) → i < n → p (frame i) ≡ b) → count_in p (grown l frame n) ≡ count_in p l + cond b n 0
-  count_in_grown p true zero h = omega arith
-  count_in_grown p false zero h = omega arith
-  count_in_grown p true (suc n) h = omega (arith, count_in_push p (grown l frame n) (frame n), count_in_grown p true n (λ i b. h i (omega arith)), ap (λ b. cond {A = ℕ} b 1 0) (h n (omega arith)))
-  count_in_grown p false (suc n) h = omega (arith, count_in_push p (grown l frame n) (frame n), count_in_grown p false n (λ i b. h i (omega arith)), ap (λ b. cond {A = ℕ} b 1 0) (h n (omega arith)))
+  count_in_grown p b zero h = grind arith
+  count_in_grown p b (suc n) h = grind (arith, count_in_push p (grown l frame n) (frame n), count_in_grown p b n (λ i b. h i (omega arith)), h n)
 
   pub allowed_grown : (m : DrawMeaning) (N : ℕ) → Allowed m N l → (n : ℕ) → ((i : ℕ) → i < n → m.follows N (grown l frame i) (frame i) ≡ true) → Allowed m N (grown l frame n)
   allowed_grown m N start zero h = start
@@ -39,10 +36,11 @@ module _ (m : DrawMeaning) (N D k d : ℕ) (early late : ℕ → ℕ) where
 
   pub bad_mixed : ((i : ℕ) → i < d → early i < D) → ((i : ℕ) → i < k - d → D ≤ late i) → bad_in (λ f. nat_lt f D) mixed ≡ d
   unfolding mixed
-  bad_mixed below above = omega (
+  bad_mixed below above = grind (
     arith,
-    count_in_grown (grown [] early d) late (λ f. nat_lt f D) false (k - d) (λ i b. le-ltb (late i) D (above i b)),
-    count_in_grown [] early (λ f. nat_lt f D) true d (λ i b. lt-ltb (early i) D (below i b)),
+    nat_tests,
+    count_in_grown (grown [] early d) late (λ f. nat_lt f D) false (k - d),
+    count_in_grown [] early (λ f. nat_lt f D) true d,
   )
 
   pub allowed_mixed : ((i : ℕ) → i < d → m.follows N (grown [] early i) (early i) ≡ true)
@@ -54,12 +52,4 @@ module _ (m : DrawMeaning) (N D k d : ℕ) (early late : ℕ → ℕ) where
 pub alike_from : (m : DrawMeaning) (N : ℕ) (l : List ℕ)
     → m.good N (count_below (λ _. false) N) (length l) (bad_in (λ _. false) l) ≡ count_below (λ f. m.follows N l f && true) N
     → count_below (m.follows N l) N ≡ m.good N 0 (length l) 0
-alike_from m N l right =
-    count_below_same (m.follows N l) (λ f. m.follows N l f && true) N (λ f _. sym (and_true (m.follows N l f)))
-    ∙ sym right
-    ∙ (λ t. m.good N (count_below_none (λ _. false) N (λ _ _. refl) t) (length l) (count_in_none l t))
-
--- two counts that both stand behind one test
-pub none_from : (b : Bool) (x y : ℕ) → (b ≢ true) → (cond b x 0 ≡ 0) × (cond b y 0 ≡ 0)
-none_from true x y no_list = absurd (no_list refl)
-none_from false x y no_list = (refl, refl)
+alike_from m N l right = grind (arith, count_below_same (m.follows N l) (λ f. m.follows N l f && true) N, count_below_none (λ _. false) N, count_in_none l)

@@ -11,8 +11,15 @@ pub enum State {
     Bad,
 }
 
+// A struct, and no Option of one: a table is lent, and callers may have left any frame beside Empty.
 #[derive(Clone, Copy, PartialEq, Eq, Debug)]
 pub struct Entry {
     pub frame: u32,
     pub state: State,
 }
+
+// Nothing pulled here yet.
+pub const BLANK: Entry = Entry {
+    frame: 0,
+    state: State::Empty,
+};

@@ -2,6 +2,7 @@
 #![tactic(auto)]
 
 pub mod entry;
+pub mod name;
 pub mod rule;
 #[cfg(test)]
 mod tests;

@@ -1,5 +1,6 @@
 // Draw rules: which frames may follow those drawn, and how many of them are good and bad.
-ghost use Rattle.std.specs.Prelude.{◌≡◌, ℕ, take};
+ghost use Rattle.std.specs.List.{list_any};
+ghost use Rattle.std.specs.Prelude.{◌==◌, ◌≡◌, ℕ, take};
 ghost use Rattle.draws.specs.Closed.{Binomial, Hypergeometric};
 ghost use Rattle.draws.specs.Draws.{DrawMeaning, Enumerates, Lawful, Reel};
 ghost use Rattle.draws.specs.Entries.{frames_of};
@@ -20,11 +21,9 @@ pub struct Following {
 const NONE: Following = Following { good: 0, bad: 0 };
 
 pub trait DrawRule {
-    // the rule's code on a slip
-    const RULE_CODE: u8;
-
     ghost meaning: { Self → DrawMeaning };
 
+    // The rule's code on a slip.
     fn code(&self) -> u8
         ensures { result ≡ (meaning self.now).code };
 
@@ -32,8 +31,8 @@ pub trait DrawRule {
     fn longest(&self, reel: u32) -> u32
         ensures { result ≡ (meaning self.now).longest reel };
 
-    // Whether the frame may follow the frames of the first `drawn` entries. A rule may write in
-    // the entry behind them while it answers; it leaves the table as it found it.
+    // Whether the frame may follow the frames of the first `drawn` entries. It is lent the whole table, since a rule may
+    // write in the entry behind them while it answers; it leaves the table as it found it.
     fn may_follow(&self, reel: u32, table: &mut [Entry], drawn: usize, frame: u32) -> bool
         ensures answer { result ≡ (meaning self.now).follows reel (frames_of (take drawn table.old)) frame }
         ensures kept { table.new ≡ table.old };
@@ -47,27 +46,10 @@ pub trait DrawRule {
     ghost lawful: { (r : Self) → Lawful (meaning r) };
 }
 
-// The first entries of a table: as many as asked for, or all.
-fn first(table: &[Entry], count: usize) -> &[Entry]
-    ensures { result.now ≡ take count table.now }
-{
-    if count < table.len() {
-        &table[0..count]
-    } else {
-        table
-    }
-}
-
-// Whether one of the entries has the frame.
 fn has_frame(entries: &[Entry], frame: u32) -> bool
-    ensures { result ≡ holds frame (frames_of entries.now) }
+    ensures { result ≡ list_any (λ e. frame == e.frame) entries.now }
 {
-    for entry in entries {
-        if frame == entry.frame {
-            return true;
-        }
-    }
-    false
+    entries.iter().any(|entry| frame == entry.frame)
 }
 
 // A frame once drawn is not drawn again.
@@ -75,6 +57,7 @@ fn has_frame(entries: &[Entry], frame: u32) -> bool
 pub struct WithoutReplacement;
 
 // The rule, with what is known of its allowed lists.
+#[tactic(auto, using(crate::proofs::Recurrence::enumerates, crate::specs::Without::lawful, crate::proofs::Hypergeometric::hypergeometric))]
 pub fn without_replacement() -> WithoutReplacement
     ensures listed { (N : ℕ) → Reel N → Enumerates without_replacement N }
     ensures closed { Hypergeometric without_replacement }
@@ -82,9 +65,11 @@ pub fn without_replacement() -> WithoutReplacement
     WithoutReplacement
 }
 
-impl DrawRule for WithoutReplacement {
-    const RULE_CODE: u8 = 1;
+impl WithoutReplacement {
+    pub const RULE_CODE: u8 = 1;
+}
 
+impl DrawRule for WithoutReplacement {
     ghost meaning = { λ _. without_replacement };
 
     ghost lawful = { λ _. Without.lawful };
@@ -97,8 +82,10 @@ impl DrawRule for WithoutReplacement {
         reel
     }
 
+    #[tactic(auto, using(crate::proofs::Held::holds_first))]
     fn may_follow(&self, reel: u32, table: &mut [Entry], drawn: usize, frame: u32) -> bool {
-        frame < reel && !has_frame(first(table, drawn), frame)
+        let pulled = &table[..drawn.min(table.len())];
+        frame < reel && !has_frame(pulled, frame)
     }
 
     fn counts(&self, reel: u32, bad: u32, drawn: u32, bad_drawn: u32) -> Following {
@@ -122,6 +109,7 @@ impl DrawRule for WithoutReplacement {
 pub struct WithReplacement;
 
 // The rule, with what is known of its allowed lists.
+#[tactic(auto, using(crate::proofs::Recurrence::enumerates, crate::specs::With::lawful, crate::proofs::Binomial::binomial))]
 pub fn with_replacement() -> WithReplacement
     ensures listed { (N : ℕ) → Reel N → Enumerates with_replacement N }
     ensures closed { Binomial with_replacement }
@@ -132,9 +120,11 @@ pub fn with_replacement() -> WithReplacement
 // The longest list of frames drawn with replacement.
 const LONGEST: u32 = 32_768;
 
-impl DrawRule for WithReplacement {
-    const RULE_CODE: u8 = 2;
+impl WithReplacement {
+    pub const RULE_CODE: u8 = 2;
+}
 
+impl DrawRule for WithReplacement {
     ghost meaning = { λ _. with_replacement };
 
     ghost lawful = { λ _. With.lawful };
@@ -148,7 +138,7 @@ impl DrawRule for WithReplacement {
     }
 
     fn may_follow(&self, reel: u32, table: &mut [Entry], drawn: usize, frame: u32) -> bool {
-        frame < reel && first(table, drawn).len() < LONGEST as usize
+        frame < reel && drawn.min(table.len()) < LONGEST as usize
     }
 
     fn counts(&self, reel: u32, bad: u32, drawn: u32, bad_drawn: u32) -> Following {

@@ -1,9 +1,8 @@
 -- A scheme that fills unit after unit is lawful. Assumes nothing.
-use Rattle.std.specs.Prelude.{◌≡◌, ℕ, ◌+◌, ◌*◌, ◌/◌, ◌%◌, ◌<◌, ◌≤◌, length, refl}
-use Rattle.std.proofs.Common.{sym, ap, subst, ◌∙◌, mod-lt, arith}
+use Rattle.std.specs.Prelude.{◌≡◌, ℕ, ◌/◌, ◌%◌, ◌<◌, ◌≤◌, length, refl}
+use Rattle.std.proofs.Common.{mod-lt, arith}
 use Rattle.std.proofs.Math.Nat.{div-add-mod}
 use Rattle.std.proofs.lemmas.List.FromFn.{length-map-range_with_len, get_or-map-range_with_len}
-use Rattle.film.specs.declared.address.Address.{Address}
 use Rattle.film.specs.Schemes.{Lawful, InUnitsOf, regular, filled, at, address_at}
 
 pub length_filled : (F reach : ℕ) → length (filled F reach) ≡ reach
@@ -17,17 +16,12 @@ regular_at code F reach i h = get_or-map-range_with_len (λ j. at (j / F) (j % F
 pub regular_in_units : (code F reach : ℕ) → InUnitsOf F (regular code F reach)
 regular_in_units code F reach = record { parts = λ _. refl; order = λ i h. regular_at code F reach i h }
 
--- a frame is its whole units and its part
-rebuilt : (F i j : ℕ) → i / F ≡ j / F → i % F ≡ j % F → i ≡ j
-rebuilt F i j p q = sym (div-add-mod i F) ∙ (λ t. F * p t + q t) ∙ div-add-mod j F
-
 pub regular_lawful : (code F reach : ℕ) → 0 < F → F ≤ 256 → Lawful (regular code F reach)
 regular_lawful code F reach some few = record {
   long = length_filled F reach;
-  single = λ i j hi hj e.
-      let e' = sym (regular_at code F reach i hi) ∙ e ∙ regular_at code F reach j hj in
-      rebuilt F i j (ap (λ (a : Address). a.whole) e') (ap (λ (a : Address). a.part) e');
-  held = λ i h. subst (λ (a : Address). a.part < F) (sym (regular_at code F reach i h)) (mod-lt i some);
+  -- a frame is its whole units and its part
+  single = λ i j hi hj e. grind (arith, regular_at code F reach i hi, regular_at code F reach j hj, div-add-mod i F, div-add-mod j F);
+  held = λ i h. grind (arith, regular_at code F reach i h, mod-lt i some);
   some = λ _. some;
   few = λ _. few;
 }

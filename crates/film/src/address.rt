@@ -1,8 +1,9 @@
 // An address as it is written, and why one is refused.
-ghost use Rattle.std.specs.Prelude.{◌≡◌, Some};
-ghost use Rattle.film.specs.Faults.{number_of, place_of, refusal_of};
+ghost use Rattle.std.specs.Prelude.{Some};
+ghost use Rattle.film.specs.Faults.{refusal_of};
 ghost use Rattle.film.specs.Refusals.{refusal_text};
 
+use crate::fault::{Fault, Printed};
 use std::fmt;
 
 // A whole unit (a foot of film, a second of timecode) and a part of it, counted from 0.
@@ -20,23 +21,25 @@ pub enum AddressFault {
     OffReel,
 }
 
-impl AddressFault {
-    pub fn number(&self) -> u32
-        ensures { result ≡ number_of self.now }
-    {
+impl Fault for AddressFault {
+    ghost refusal = { refusal_of };
+
+    fn number(&self) -> u32 {
         match self {
             AddressFault::NoSuchPart => 11,
             AddressFault::OffReel => 12,
         }
     }
 
-    pub fn place(&self) -> u32
-        ensures { result ≡ place_of self.now }
-    {
+    fn place(&self) -> u32 {
         match self {
             AddressFault::NoSuchPart => 2,
             AddressFault::OffReel => 1,
         }
+    }
+
+    fn layers(&self) -> &'static str {
+        "A"
     }
 }
 
@@ -44,8 +47,6 @@ impl fmt::Display for AddressFault {
     ghost output = { λ fault. Some (refusal_text (refusal_of fault)) };
 
     fn fmt<W: fmt::Write>(&self, f: &mut fmt::Formatter<W>) -> fmt::Result {
-        let number = self.number();
-        let place = self.place();
-        write!(f, "no {number} {place} A")
+        write!(f, "{}", Printed(self))
     }
 }

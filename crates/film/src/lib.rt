@@ -2,7 +2,9 @@
 #![tactic(auto)]
 
 pub mod address;
+pub mod fault;
 pub mod lookup;
+pub mod name;
 pub mod scheme;
 pub mod schemes;
 #[cfg(test)]

@@ -4,16 +4,20 @@
 ghost use Rattle.std.specs.Prelude.{◌≡◌};
 ghost use Rattle.frames.specs.Reels.{reel_size};
 
-use drawlist::row::{Row, Seen, Tally};
+use drawlist::row::{Seen, Tally};
 use drawlist::survey::survey;
+use film::address::Address;
 use film::lookup::address_of;
 use film::scheme::Scheme;
 use film::schemes::{Feet16, Feet35, Timecode24};
 use lines::{number, split_lines};
 use std::io::Read;
-use std::{env, io};
+use std::{env, fmt, io};
 
 const LONGEST_REEL: u32 = 1_000_000;
+
+// where the first address stands, behind the reel's size
+const FIRST_LINE: usize = 2;
 
 fn main(rt: HostRuntime) -> anyhow::Result<()> {
     run(&rt)
@@ -33,17 +37,14 @@ fn run(rt: &HostRuntime) -> anyhow::Result<()> {
         usage(rt)?;
         return Ok(());
     };
-    match reel_size(first) {
-        Some(reel) => {
-            let found = survey(heap, reel, addresses)?;
-            print_lines(rt, reel, found.lines.as_slice())?;
-            print_tally(rt, found.tally)?;
-        }
-        None => {
-            println!(rt; "line 1: not a reel's number of frames, 1 to {LONGEST_REEL}")?;
-            usage(rt)?;
-        }
-    }
+    let Some(reel) = reel_size(first) else {
+        println!(rt; "line 1: not a reel's number of frames, 1 to {LONGEST_REEL}")?;
+        usage(rt)?;
+        return Ok(());
+    };
+    let found = survey(heap, reel, addresses)?;
+    print_lines(rt, reel, found.lines.as_slice())?;
+    print_tally(rt, found.tally)?;
     Ok(())
 }
 
@@ -63,60 +64,71 @@ fn usage(rt: &HostRuntime) -> io::Result<()> {
 fn reel_size(line: &[u8]) -> Option<u32>
     ensures { result ≡ reel_size line.now }
 {
-    let size = number(line)?;
-    if size == 0 || size > LONGEST_REEL {
-        return None;
-    }
-    Some(size)
+    number(line).filter(|size| (1..=LONGEST_REEL).contains(size))
 }
 
 fn print_lines(rt: &HostRuntime, reel: u32, lines: &[Seen]) -> io::Result<()> {
-    for (i, seen) in lines.iter().enumerate() {
-        // the first address stands on the second line
-        let line = i.saturating_add(2);
-        match seen.row {
-            Row::Frame(frame) => print_frame(rt, reel, line, frame, seen.earlier)?,
-            Row::Refused(fault) => println!(rt; "line {line}: {fault}")?,
-            Row::UnknownScheme(code) => println!(rt; "line {line}: no scheme {code}")?,
-            Row::Unreadable => println!(rt; "line {line}: cannot be read")?,
+    for (line, seen) in (FIRST_LINE..).zip(lines) {
+        println!(rt; "line {line}: {}", Answer { reel, seen: *seen })?;
+    }
+    Ok(())
+}
+
+// What is said of a line.
+#[derive(Clone, Copy)]
+struct Answer {
+    reel: u32,
+    seen: Seen,
+}
+
+impl fmt::Display for Answer {
+    fn fmt<W: fmt::Write>(&self, f: &mut fmt::Formatter<W>) -> fmt::Result {
+        let reel = self.reel;
+        match self.seen.row {
+            Ok(frame) => write_frame(f, reel, frame, self.seen.earlier),
+            Err(fault) => write!(f, "{fault}"),
         }
     }
-    Ok(())
 }
 
-fn print_frame(
-    rt: &HostRuntime,
+fn write_frame<W: fmt::Write>(
+    f: &mut fmt::Formatter<W>,
     reel: u32,
-    line: usize,
     frame: u32,
     earlier: Option<usize>,
-) -> io::Result<()> {
-    print!(rt; "line {line}: frame {frame}")?;
-    print_address(rt, &Feet35, reel, frame)?;
-    print_address(rt, &Feet16, reel, frame)?;
-    print_address(rt, &Timecode24, reel, frame)?;
+) -> fmt::Result {
+    write!(f, "frame {frame}")?;
+    write_address(f, &Feet35, reel, frame)?;
+    write_address(f, &Feet16, reel, frame)?;
+    write_address(f, &Timecode24, reel, frame)?;
     if let Some(first) = earlier {
-        let first = first.saturating_add(2);
-        print!(rt; ", named before by line {first}")?;
-    }
-    println!(rt; "")
-}
-
-fn print_address<S: Scheme>(rt: &HostRuntime, scheme: &S, reel: u32, frame: u32) -> io::Result<()> {
-    if let Ok(address) = address_of(scheme, reel, frame) {
-        let code = scheme.slip_code();
-        let whole = address.whole;
-        let part = address.part;
-        print!(rt; ", {whole}+{part} in scheme {code}")?;
+        let first = first.saturating_add(FIRST_LINE);
+        write!(f, ", named before by line {first}")?;
     }
     Ok(())
+}
+
+// The frame's address in a scheme, where the scheme reaches it.
+fn write_address<W: fmt::Write, S: Scheme>(
+    f: &mut fmt::Formatter<W>,
+    scheme: &S,
+    reel: u32,
+    frame: u32,
+) -> fmt::Result {
+    let Ok(Address { whole, part }) = address_of(scheme, reel, frame) else {
+        return Ok(());
+    };
+    let code = scheme.slip_code();
+    write!(f, ", {whole}+{part} in scheme {code}")
 }
 
 fn print_tally(rt: &HostRuntime, tally: Tally) -> io::Result<()> {
-    let addresses = tally.addresses;
-    let frames = tally.frames;
-    let refused = tally.refused;
-    let unreadable = tally.unreadable;
+    let Tally {
+        addresses,
+        frames,
+        refused,
+        unreadable,
+    } = tally;
     println!(rt;
         "{addresses} addresses, {frames} frames, {refused} refused, {unreadable} unreadable"
     )

@@ -2,17 +2,24 @@
 #![tactic(auto)]
 
 use console::session::{enough_bytes, run};
-use std::io::{Read, Write};
-use std::{env, io};
+use std::env;
+use std::io::Read;
+
+const USAGE: &str = "\
+inspect: a reel inspected by a sampling plan, from its number to its slip
+in:  at most 65,536 bytes of lines, one blank between the words
+     r NUMBER N RULE: a reel of N frames; rule 1 draws without replacement, rule 2 with
+     p N1 AC1 RE1 N2 AC2 T LIMIT: a plan that passes at most LIMIT millionths of the draws from a reel with T bad frames
+     f SCHEME WHOLE PART MARK: a frame viewed, g good or b bad; scheme 1: 35 mm feet and frames, 2: 16 mm, 3: seconds and frames at 24
+     s SCHEME: the slip, with the bad frames named in that scheme
+out: a reply to each line: ok, behind p the chance of a false PASS between two ends in parts of 2^40, behind f the standing
+     (0 OPEN, 1 PASS, 2 REJECT, 3 SECOND), behind s the slip in hexadecimal; or a refusal: no NUMBER PLACE LAYERS
+";
 
 fn main(rt: HostRuntime) -> anyhow::Result<()> {
-    answer(&rt)
-}
-
-fn answer(rt: &HostRuntime) -> anyhow::Result<()> {
     // it takes no argument, so whoever gives one wants to know what it takes
-    if env::args(rt)?.count() > 1 {
-        usage(rt)?;
+    if env::args(&rt)?.count() > 1 {
+        rt.print(USAGE)?;
         return Ok(());
     }
     let heap = rt.alloc();
@@ -21,27 +28,6 @@ fn answer(rt: &HostRuntime) -> anyhow::Result<()> {
         .take(enough_bytes() as u64)
         .read_to_end(&mut input)?;
     let output = run(heap, input.as_slice())?;
-    rt.stdout().write_all(output.as_bytes())?;
+    rt.print(output.as_str())?;
     Ok(())
-}
-
-fn usage(rt: &HostRuntime) -> io::Result<()> {
-    println!(rt; "inspect: a reel inspected by a sampling plan, from its number to its slip")?;
-    println!(rt; "in:  at most 65,536 bytes of lines, one blank between the words")?;
-    println!(rt;
-        "     r NUMBER N RULE: a reel of N frames; rule 1 draws without replacement, rule 2 with"
-    )?;
-    println!(rt;
-        "     p N1 AC1 RE1 N2 AC2 T LIMIT: a plan that passes at most LIMIT millionths of the draws from a reel with T bad frames"
-    )?;
-    println!(rt;
-        "     f SCHEME WHOLE PART MARK: a frame viewed, g good or b bad; scheme 1: 35 mm feet and frames, 2: 16 mm, 3: seconds and frames at 24"
-    )?;
-    println!(rt; "     s SCHEME: the slip, with the bad frames named in that scheme")?;
-    println!(rt;
-        "out: a reply to each line: ok, behind p the chance of a false PASS between two ends in parts of 2^40, behind f the standing"
-    )?;
-    println!(rt;
-        "     (0 OPEN, 1 PASS, 2 REJECT, 3 SECOND), behind s the slip in hexadecimal; or a refusal: no NUMBER PLACE LAYERS"
-    )
 }

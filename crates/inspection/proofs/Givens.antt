@@ -16,12 +16,12 @@ given_same v w e = cc
 
 module _ {A : Type 0} (r : Refusal) (v : A) where
   pub not_refused : (b : Bool) (x : Answer A) → given v ≡ cond b (refused r) x → (b ≡ false) × (given v ≡ x)
-  not_refused true x e = absurd (let z : ◌≡◌ {A = ℕ} 0 1 = cc in omega arith)
+  not_refused true x e = absurd (cc)
   not_refused false x e = (refl, e)
 
   pub allowed_by : (b : Bool) (x : Answer A) → given v ≡ cond b x (refused r) → (b ≡ true) × (given v ≡ x)
   allowed_by true x e = (refl, e)
-  allowed_by false x e = absurd (let z : ◌≡◌ {A = ℕ} 0 1 = cc in omega arith)
+  allowed_by false x e = absurd (cc)
 
 -- what an accepted pull tells
 pub record Pulled (m : DrawMeaning) (h : Held) (table : List Entry) (t : Stub) : Type 0 where
@@ -39,7 +39,7 @@ room_left h pulled e = by (eqb h.standing 0) (eqb h.standing 3) e
 
 module _ (m : DrawMeaning) (h : Held) (table : List Entry) (t : Stub) where
   asked_given : (found : Answer ℕ) → given t ≡ asked m h table found → (ticket_place t ≡ (counts_of h table).pulled) × (m.follows h.terms.N (drawn_of h table) (ticket_frame t) ≡ true)
-  asked_given (refused r) e = absurd (let z : ◌≡◌ {A = ℕ} 0 1 = cc in omega arith)
+  asked_given (refused r) e = absurd (cc)
   asked_given (given frame) e =
       let p = allowed_by _ t _ _ e in
       let same = given_same t (record { reel = h.number; place = (counts_of h table).pulled; frame = frame }) p.1 in

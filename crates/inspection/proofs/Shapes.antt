@@ -31,7 +31,7 @@ abbrev pub bads : List Entry → ℕ
 bads xs = count_in (λ e. is_bad_mark (state_of e)) xs
 
 counted_is : (s : State) → is_pulled s ≡ true → (k g b : ℕ) → counted s (record { pulled = k; good = g; bad = b }) ≡ record { pulled = suc k; good = cond (is_good s) 1 0 + g; bad = cond (is_bad_mark s) 1 0 + b }
-counted_is Empty e k g b = absurd (let z : ◌≡◌ {A = ℕ} 0 1 = cc in omega arith)
+counted_is Empty e k g b = absurd (cc)
 counted_is Out e k g b = (λ i. record { pulled = suc k; good = sym (zero-add g) i; bad = sym (zero-add b) i })
 counted_is Good e k g b = (λ i. record { pulled = suc k; good = sym (one-add g) i; bad = sym (zero-add b) i })
 counted_is Bad e k g b = (λ i. record { pulled = suc k; good = sym (zero-add g) i; bad = sym (one-add b) i })
@@ -54,7 +54,7 @@ tally_filled [] (suc b) h = refl
 tally_filled (e ∷ xs) b h = ap (counted (state_of e)) (tally_filled xs b h.1) ∙ counted_is (state_of e) h.0 (length xs) (goods xs) (bads xs)
 
 one_each : (s : State) → is_pulled s ≡ true → 1 ≡ cond (is_good s) 1 0 + cond (is_bad_mark s) 1 0 + cond (is_out s) 1 0
-one_each Empty e = absurd (let z : ◌≡◌ {A = ℕ} 0 1 = cc in omega arith)
+one_each Empty e = absurd (cc)
 one_each Out e = refl
 one_each Good e = refl
 one_each Bad e = refl

@@ -190,11 +190,11 @@ module _ (m : DrawMeaning) (past : List Event) (h : Held) (table : List Entry) (
       (λ ge. absurd (true≢false (sym is.out ∙ ap (λ e. is_out (state_of e)) (at_empty h.terms traced.xs traced.empty traced.rest table traced.shape (ticket_place t) ge is.below))))
       (cases_lt (ticket_place t) (length traced.xs))
 
-  pub traced_mark : (t : Stub) (mark : Mark) (answer : Answer (Unit {0})) (after : Held) (left : List Entry) → Marks h table t mark answer after left → Traced m (mark_events t mark answer past) after left
-  traced_mark t mark (refused r) after left p =
+  pub traced_mark : (t : Stub) (mark : Mark) (answer : Answer (Unit {0})) (held : Held) (left : List Entry) → Marks h table t mark answer held left → Traced m (mark_events t mark answer past) held left
+  traced_mark t mark (refused r) held left p =
       let whole : Traced m past h left = subst (Traced m past h) (sym p.table_left) traced in
       subst (λ h. Traced m past h left) (sym p.held_left) whole
-  traced_mark t mark (given done) after left p =
+  traced_mark t mark (given done) held left p =
       let is = mark_given h table t p.value in
       let below = out_pulled t is in
       let here = at_pulled h.terms traced.xs traced.empty traced.rest table traced.shape (ticket_place t) below in

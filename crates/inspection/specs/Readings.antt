@@ -1,6 +1,8 @@
 -- What the values that the calls take and answer say, in plain numbers. Assumes nothing.
-use Rattle.std.specs.Prelude.{◌≡◌, Ok, Err, Result}
+use Rattle.std.specs.Prelude.{◌≡◌, ℕ, ◌<◌, ◌≤◌, true, false, List, length, take, codes, Ok, Err, Result}
+use Rattle.std.specs.Borrow.{Bor}
 use Rattle.film.specs.Refusals.{Answer, given, refused}
+use Rattle.draws.specs.declared.entry.Entry.{Entry}
 use Rattle.sampling.specs.Certified.{certified_numbers}
 use Rattle.inspection.specs.Tables.{Held, standing_code}
 use Rattle.inspection.specs.Answers.{Reported}
@@ -15,6 +17,13 @@ use Rattle.inspection.specs.declared.ticket.Ticket.{Ticket}
 -- a ticket's numbers
 abbrev pub numbers_of : Ticket → Stub
 numbers_of t = t.stub
+
+-- a ticket may be let fall once it is spent
+abbrev pub IsSpent : Ticket → Type 0
+IsSpent t = t.spent ≡ true
+
+abbrev pub IsUnspent : Ticket → Type 0
+IsUnspent t = t.spent ≡ false
 
 -- what an inspection holds beside its rule
 abbrev pub held_of : {R : Type 0} → Inspection R → Held
@@ -54,3 +63,8 @@ HandsBack (Err unmarked) t = unmarked.ticket ≡ t
 abbrev pub standing_reading : Result Report InspectionFault → Answer Reported
 standing_reading (Ok r) = given (record { code = standing_code r.standing; counts = r.counts })
 standing_reading (Err fault) = refused (inspection_refusal fault)
+
+-- the entries of both samples, if the table has so many
+abbrev pub BothSamples : (size : ℕ) → List Entry → Result (Bor (List Entry)) InspectionFault → Type 0
+BothSamples size table (Ok entries) = (entries.now ≡ take size table) × (length entries.now ≡ size) × (size ≤ length table)
+BothSamples size table (Err fault) = (inspection_refusal fault ≡ record { number = 41; place = size; layers = codes "I" }) × (length table < size)

@@ -1,8 +1,8 @@
 // An inspection and its calls.
-ghost use Rattle.std.specs.Prelude.{◌≡◌, ◌+◌, ◌≤◌, false, length, IfOk};
+ghost use Rattle.std.specs.Prelude.{◌≡◌, ◌+◌, ◌≤◌, length, IfOk};
 ghost use Rattle.plans.specs.Makes.{numbers_of as plan_numbers};
-ghost use Rattle.inspection.specs.Answers.{Few, Marks, Opens, Pulls, Stands, mark_check, no_more, when_given};
-ghost use Rattle.inspection.specs.Readings.{HandsBack, OpensWith, check_reading, held_of, mark_reading, numbers_of, open_reading, pull_reading, rule_of, standing_reading};
+ghost use Rattle.inspection.specs.Answers.{Few, Marks, Opens, Pulls, Stands, mark_answer, no_more, when_given};
+ghost use Rattle.inspection.specs.Readings.{HandsBack, IsUnspent, OpensWith, BothSamples, check_reading, held_of, mark_reading, numbers_of, open_reading, pull_reading, rule_of, standing_reading};
 ghost use Rattle.inspection.specs.Runs.{LawOfRuns};
 ghost use Rattle.inspection.specs.Settling.{ruled_by, settled_by};
 ghost use Rattle.inspection.specs.Tables.{size_of, standing_code, table_standing};
@@ -13,7 +13,7 @@ use crate::fault::InspectionFault;
 use crate::report::{Report, Standing};
 use crate::table;
 use crate::ticket::{Mark, Stub, Ticket, tear};
-use draws::entry::{Entry, State};
+use draws::entry::{BLANK, Entry, State};
 use draws::rule::DrawRule;
 use film::address::Address;
 use film::lookup::locate;
@@ -80,26 +80,6 @@ fn settle(standing: &mut Standing, plan: Plan, table: &[Entry])
     move_on(standing, plan, first, second);
 }
 
-// Whether a mark with this ticket is refused: the table too short, the ticket not of this entry, or the entry not out.
-fn check_ticket(number: u32, size: u32, stub: Stub, table: &[Entry]) -> Result<(), InspectionFault>
-    ensures { check_reading result ≡ mark_check number size table.now stub }
-{
-    if table.len() < size as usize {
-        return Err(InspectionFault::ShortTable(size));
-    }
-    if stub.reel != number || stub.place >= size {
-        return Err(InspectionFault::OtherTicket(stub.place));
-    }
-    let entry = table[stub.place as usize];
-    if entry.frame != stub.frame {
-        return Err(InspectionFault::OtherTicket(stub.place));
-    }
-    match entry.state {
-        State::Out => Ok(()),
-        _ => Err(InspectionFault::NotOut(stub.place)),
-    }
-}
-
 // Opens an inspection of a reel, with both samples' entries of the table emptied.
 pub fn open<R: DrawRule + Drop>(
     number: u32,
@@ -116,11 +96,8 @@ pub fn open<R: DrawRule + Drop>(
         certified,
         standing: Standing::Open,
     };
-    let size = inspection.size();
-    if table.len() < size as usize {
-        return Err(InspectionFault::ShortTable(size));
-    }
-    table::clear(table, size as usize);
+    let size = inspection.entries(table)?.len();
+    table[0..size].fill(BLANK);
     Ok(inspection)
 }
 
@@ -133,13 +110,9 @@ impl<R: DrawRule> Inspection<R> {
         table: &mut [Entry],
     ) -> Result<Ticket, InspectionFault>
         ensures answer { Pulls (R.DrawRule.meaning (rule_of self.now)) (S.Scheme.meaning scheme.now) (held_of self.now) table.old address (pull_reading result) table.new }
-        ensures unspent { IfOk result (λ ticket. ticket.spent ≡ false) }
+        ensures unspent { IfOk result IsUnspent }
     {
-        let size = self.size();
-        if table.len() < size as usize {
-            return Err(InspectionFault::ShortTable(size));
-        }
-        let pulled = table::count(&table[0..size as usize]).pulled;
+        let pulled = table::count(self.entries(table)?).pulled;
         if self.no_more(pulled) {
             return Err(InspectionFault::NoMorePulls(pulled));
         }
@@ -172,12 +145,11 @@ impl<R> Inspection<R> {
         ensures back { HandsBack result ticket }
     {
         let stub = ticket.stub();
-        let size = self.size();
-        if let Err(fault) = check_ticket(self.number, size, stub, table) {
+        if let Err(fault) = self.check(stub, table) {
             return Err(Unmarked { fault, ticket });
         }
         tear(ticket);
-        table[stub.place as usize].state = mark.state();
+        table[stub.place as usize].state = State::from(mark);
         settle(&mut self.standing, self.certified.plan(), table);
         Ok(())
     }
@@ -205,6 +177,34 @@ impl<R> Inspection<R> {
         plan.n1() + plan.n2()
     }
 
+    // The entries of both samples, if the table has so many.
+    fn entries<'t>(&self, table: &'t [Entry]) -> Result<&'t [Entry], InspectionFault>
+        ensures { BothSamples (size_of (certified_numbers self.now.certified)) table.now result }
+    {
+        let size = self.size();
+        table
+            .get(0..size as usize)
+            .ok_or(InspectionFault::ShortTable(size))
+    }
+
+    // Refuses a mark whose ticket is not of its entry, or whose entry is not out.
+    fn check(&self, stub: Stub, table: &[Entry]) -> Result<(), InspectionFault>
+        ensures { check_reading result ≡ mark_answer (held_of self.now) table.now stub }
+    {
+        let entries = self.entries(table)?;
+        let place = stub.place as usize;
+        if stub.reel != self.number
+            || place >= entries.len()
+            || entries[place].frame != stub.frame
+        {
+            return Err(InspectionFault::OtherTicket(stub.place));
+        }
+        if entries[place].state != State::Out {
+            return Err(InspectionFault::NotOut(stub.place));
+        }
+        Ok(())
+    }
+
     // Whether the standing is settled, or its sample is all pulled.
     fn no_more(&self, pulled: u32) -> bool
         ensures { result ≡ no_more (held_of self.now) pulled }
@@ -221,13 +221,9 @@ impl<R> Inspection<R> {
         ensures answer { Stands (held_of self.now) table.now (standing_reading result) }
         ensures few { when_given (standing_reading result) Few }
     {
-        let size = self.size();
-        if table.len() < size as usize {
-            return Err(InspectionFault::ShortTable(size));
-        }
         Ok(Report {
             standing: self.standing,
-            counts: table::count(&table[0..size as usize]),
+            counts: table::count(self.entries(table)?),
         })
     }
 }

@@ -1,10 +1,11 @@
 // Why a call of an inspection is refused.
 ghost use Rattle.std.specs.Prelude.{◌≡◌, Some};
 ghost use Rattle.film.specs.Refusals.{refusal_text};
-ghost use Rattle.inspection.specs.Faults.{inspection_number, inspection_place, inspection_refusal};
+ghost use Rattle.inspection.specs.Faults.{inspection_refusal};
 ghost use Rattle.inspection.specs.declared.fault.InspectionFault.TheVariants.{Unlocated as UnlocatedFault};
 
 use film::address::AddressFault;
+use film::fault::{Fault, Printed};
 use std::fmt;
 
 #[derive(Clone, Copy, PartialEq, Eq, Debug)]
@@ -23,10 +24,10 @@ pub enum InspectionFault {
     NotOut(u32),
 }
 
-impl InspectionFault {
-    pub fn number(&self) -> u32
-        ensures { result ≡ inspection_number self.now }
-    {
+impl Fault for InspectionFault {
+    ghost refusal = { inspection_refusal };
+
+    fn number(&self) -> u32 {
         match self {
             InspectionFault::Unlocated(fault) => fault.number(),
             InspectionFault::ShortTable(_) => 41,
@@ -37,9 +38,7 @@ impl InspectionFault {
         }
     }
 
-    pub fn place(&self) -> u32
-        ensures { result ≡ inspection_place self.now }
-    {
+    fn place(&self) -> u32 {
         match self {
             InspectionFault::Unlocated(fault) => fault.place(),
             InspectionFault::ShortTable(needed) => *needed,
@@ -47,6 +46,13 @@ impl InspectionFault {
             InspectionFault::MayNotFollow(frame) => *frame,
             InspectionFault::OtherTicket(place) => *place,
             InspectionFault::NotOut(place) => *place,
+        }
+    }
+
+    fn layers(&self) -> &'static str {
+        match self {
+            InspectionFault::Unlocated(_) => "AI",
+            _ => "I",
         }
     }
 }
@@ -63,11 +69,6 @@ impl fmt::Display for InspectionFault {
     ghost output = { λ fault. Some (refusal_text (inspection_refusal fault)) };
 
     fn fmt<W: fmt::Write>(&self, f: &mut fmt::Formatter<W>) -> fmt::Result {
-        let number = self.number();
-        let place = self.place();
-        match self {
-            InspectionFault::Unlocated(_) => write!(f, "no {number} {place} AI"),
-            _ => write!(f, "no {number} {place} I"),
-        }
+        write!(f, "{}", Printed(self))
     }
 }

@@ -5,23 +5,18 @@ ghost use Rattle.inspection.specs.Tables.{standing_code};
 #[derive(Clone, Copy, PartialEq, Eq, Debug)]
 pub enum Standing {
     // the first sample is not all marked yet
-    Open,
-    Pass,
-    Reject,
+    Open = 0,
+    Pass = 1,
+    Reject = 2,
     // the first sample settled nothing, and the second is not all marked yet
-    Second,
+    Second = 3,
 }
 
 impl Standing {
     pub fn code(self) -> u8
         ensures { result ≡ standing_code self }
     {
-        match self {
-            Standing::Open => 0,
-            Standing::Pass => 1,
-            Standing::Reject => 2,
-            Standing::Second => 3,
-        }
+        self as u8
     }
 }
 

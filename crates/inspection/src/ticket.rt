@@ -1,7 +1,7 @@
 // The ticket that goes with a frame to its viewer.
-ghost use Rattle.std.specs.Prelude.{◌≡◌, true, false};
+ghost use Rattle.std.specs.Prelude.{◌≡◌};
 ghost use Rattle.inspection.specs.Answers.{Tears};
-ghost use Rattle.inspection.specs.Readings.{numbers_of};
+ghost use Rattle.inspection.specs.Readings.{IsSpent, IsUnspent, numbers_of};
 ghost use Rattle.inspection.specs.Tables.{state_for};
 
 use draws::entry::State;
@@ -13,11 +13,11 @@ pub enum Mark {
     Bad,
 }
 
-impl Mark {
-    pub(crate) fn state(self) -> State
-        ensures { result ≡ state_for self }
-    {
-        match self {
+impl From<Mark> for State {
+    ghost from_gives = { λ mark r. r ≡ state_for mark };
+
+    fn from(mark: Mark) -> State {
+        match mark {
             Mark::Good => State::Good,
             Mark::Bad => State::Bad,
         }
@@ -35,12 +35,13 @@ pub struct Stub {
 // A frame is out as long as its ticket is: whoever holds one marks the frame or tears the ticket.
 pub struct Ticket {
     stub: Stub,
+    // a flag, since a ticket is a plain struct whose drop demands that it be spent
     spent: bool,
 }
 
 impl Drop for Ticket {
     fn drop(self)
-        requires { self.spent ≡ true }
+        requires { IsSpent self }
     {
         let Ticket { stub: _, spent: _ } = self;
     }
@@ -49,7 +50,7 @@ impl Drop for Ticket {
 impl Ticket {
     pub(crate) fn write(stub: Stub) -> Ticket
         ensures numbers { numbers_of result ≡ stub }
-        ensures unspent { result.spent ≡ false }
+        ensures unspent { IsUnspent result }
     {
         Ticket { stub, spent: false }
     }

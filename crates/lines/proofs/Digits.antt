@@ -1,35 +1,31 @@
--- Digits read one by one, and which words are numbers. Assumes nothing.
-use Rattle.std.proofs.Common.{◌≡◌, ℕ, ◌+◌, ◌-◌, ◌*◌, ◌^◌, ◌<◌, ◌≤◌, Bool, true, false, ◌&&◌, leb, List, length, get_or, drop, Some, None, sym, ap, ◌∙◌, pow-suc, add-one, arith}
+-- Which words are numbers, and what a number reads as. Assumes nothing.
+use Rattle.std.proofs.Common.{◌≡◌, ℕ, ◌≤◌, true, false, ◌&&◌, refl, List, length, None, Ok, Err, Result, arith, rules}
+use Rattle.std.proofs.lemmas.Bool.Decides.{nat_tests}
+use Rattle.std.proofs.lemmas.Str.Parse.{IsNumeralModel, numerals_by_fold, tells_all_ascii_digits, parse_digits}
+use Rattle.std.proofs.lemmas.Fmt.{IsAscii-from_digits}
+use Rattle.std.proofs.lemmas.List.Recursion.{same_from_clauses}
+use Rattle.std.proofs.lemmas.Str.{IsUtf8-from_ascii}
 use Rattle.std.specs.Char.{is_ascii_digit}
-use Rattle.std.specs.Str.{all_ascii_digits}
-use Rattle.std.proofs.lemmas.List.{at_drop_more}
-use Rattle.std.proofs.lemmas.Bool.{le-leb, lt-leb, and_from, and_left, and_right, cond-true, cond-false}
+use Rattle.std.specs.List.{list_all}
+use Rattle.std.specs.Result.{result_ok}
+use Rattle.std.specs.Str.{all_ascii_digits, IsUtf8}
+use Rattle.std.specs.Str.Parse.{ParsesUnsigned}
 use Rattle.lines.specs.Text.{read_on, number_of}
 
-third : (a b c d : Bool) → c ≡ false → (a && (b && (c && d))) ≡ false
-third a b c d e = and_right a _ (and_right b _ (and_left c d e))
-
-fourth : (a b c d : Bool) → d ≡ false → (a && (b && (c && d))) ≡ false
-fourth a b c d e = and_right a _ (and_right b _ (and_right c d e))
+own : IsNumeralModel (λ ds. all_ascii_digits ds ≡ true) (read_on 0)
+own = numerals_by_fold _ tells_all_ascii_digits read_on (search rules)
 
 pub no_digit : (word : List ℕ) → all_ascii_digits word ≡ false → None ≡ number_of word
-no_digit word e =
-    sym (cond-false _ (Some (read_on 0 word)) _ (third (leb 1 (length word)) (leb (length word) 10) (all_ascii_digits word) (leb (read_on 0 word) 4294967295) e))
+no_digit word e = grind (arith, nat_tests)
 
-pub too_large : (word : List ℕ) → 4294967295 < read_on 0 word → None ≡ number_of word
-too_large word h =
-    sym (cond-false _ (Some (read_on 0 word)) _ (fourth (leb 1 (length word)) (leb (length word) 10) (all_ascii_digits word) (leb (read_on 0 word) 4294967295) (lt-leb _ _ h)))
+-- what `parse` makes of at most ten digits
+pub parsed : {E : Type 0} (word : List ℕ) (r : Result ℕ E) → ParsesUnsigned 32 10 word r → length word ≤ 10 → all_ascii_digits word ≡ true → result_ok r ≡ number_of word
+parsed {E} word (Ok n) h few digits = let p = parse_digits own {E = E} 32 word (Ok n) h digits in grind (arith, nat_tests)
+parsed {E} word (Err e) h few digits = let p = parse_digits own {E = E} 32 word (Err e) h digits in grind (arith, nat_tests)
 
-pub a_number : (word : List ℕ) → 1 ≤ length word → length word ≤ 10 → all_ascii_digits word ≡ true → read_on 0 word ≤ 4294967295 → Some (read_on 0 word) ≡ number_of word
-a_number word some few digits small =
-    sym (cond-true _ (Some (read_on 0 word)) _ (and_from _ _ (le-leb _ _ some) (and_from _ _ (le-leb _ _ few) (and_from _ _ digits (le-leb _ _ small)))))
+-- std's two words for a test of each byte
+pub digits_all : (word : List ℕ) → list_all is_ascii_digit word ≡ all_ascii_digits word
+digits_all word = same_from_clauses (list_all is_ascii_digit) all_ascii_digits (λ c b. is_ascii_digit c && b) refl (λ _ _. refl) (λ _ _. refl) word
 
-module _ (word : List ℕ) (i : ℕ) (l : i < length word) where
-  pub read_more : (n : ℕ) → read_on n (drop i word) ≡ read_on (n * 10 + (get_or word i 0 - 48)) (drop (i + 1) word)
-  read_more n = at_drop_more (read_on n) word i 0 l
-
-  pub digits_more : all_ascii_digits (drop i word) ≡ (is_ascii_digit (get_or word i 0) && all_ascii_digits (drop (i + 1) word))
-  digits_more = at_drop_more all_ascii_digits word i 0 l
-
-pub larger : (n d i : ℕ) → n < 10 ^ i → d ≤ 9 → n * 10 + d < 10 ^ (i + 1)
-larger n d i h k = let p : 10 ^ (i + 1) ≡ 10 ^ i * 10 = ap (λ j. 10 ^ j) (add-one i) ∙ pow-suc 10 i in omega arith
+pub digits_Utf8 : (word : List ℕ) → all_ascii_digits word ≡ true → IsUtf8 word
+digits_Utf8 word digits = IsUtf8-from_ascii word (IsAscii-from_digits word (own.to word digits))

@@ -1,16 +1,15 @@
 -- How a text of bytes falls into lines, words and numbers. Assumes nothing.
-use Rattle.std.specs.Prelude.{ℕ, zero, suc, ◌+◌, ◌-◌, ◌*◌, Bool, cond, ◌&&◌, List, [], ◌∷◌, length, Some, None, Option, ◌==◌, nat_le}
+use Rattle.std.specs.Prelude.{ℕ, zero, suc, ◌+◌, ◌-◌, ◌*◌, Bool, cond, ◌&&◌, List, [], ◌∷◌, length, Some, None, Option, ◌==◌, nat_le, position, take, drop}
+use Rattle.std.specs.Option.{option_map, option_map_or}
 use Rattle.std.specs.Str.{all_ascii_digits}
 
 -- what stands before the first `mark`, or all where there is none
 abbrev pub before : (mark : ℕ) → List ℕ → List ℕ
-before mark [] = []
-before mark (b ∷ bs) = cond (b == mark) [] (b ∷ before mark bs)
+before mark text = option_map_or (λ i. take i text) (position (λ b. b == mark) text) text
 
 -- what stands behind the first `mark`, where there is one
 abbrev pub behind : (mark : ℕ) → List ℕ → Option (List ℕ)
-behind mark [] = None
-behind mark (b ∷ bs) = cond (b == mark) (Some bs) (behind mark bs)
+behind mark text = option_map (λ i. drop (i + 1) text) (position (λ b. b == mark) text)
 
 -- one byte more at the front of the first line
 abbrev pub lengthened : ℕ → List (List ℕ) → List (List ℕ)
@@ -21,6 +20,12 @@ lengthened b (l ∷ ls) = (b ∷ l) ∷ ls
 abbrev pub lines_of : List ℕ → List (List ℕ)
 lines_of [] = []
 lines_of (b ∷ bs) = cond (b == 10) ([] ∷ lines_of bs) (lengthened b (lines_of bs))
+
+-- a line without the byte 10 that ends it
+abbrev pub without_end : List ℕ → List ℕ
+without_end [] = []
+without_end (b ∷ []) = cond (b == 10) [] (b ∷ [])
+without_end (b ∷ c ∷ cs) = b ∷ without_end (c ∷ cs)
 
 -- the number that digits write, after what has been read already
 abbrev pub read_on : ℕ → List ℕ → ℕ

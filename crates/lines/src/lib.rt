@@ -3,7 +3,7 @@
 
 ghost use Rattle.std.specs.Prelude.{◌≡◌, map, IfOk, Some};
 ghost use Rattle.std.specs.Option.{option_map};
-ghost use Rattle.lines.specs.Text.{before, behind, lines_of, number_of, numbers_of};
+ghost use Rattle.lines.specs.Text.{before, behind, lines_of, without_end, number_of, numbers_of};
 
 use std::alloc::{AllocError, Global};
 
@@ -19,17 +19,15 @@ pub fn cut(text: &[u8], mark: u8) -> Pieces<'_>
     ensures front { result.front.now ≡ before mark text.now }
     ensures rest { option_map (λ x. x.now) result.rest ≡ behind mark text.now }
 {
-    for (i, b) in text.iter().enumerate() {
-        if *b == mark {
-            return Pieces {
-                front: &text[0..i],
-                rest: Some(&text[i + 1..]),
-            };
-        }
-    }
-    Pieces {
-        front: text,
-        rest: None,
+    match text.iter().position(|b| *b == mark) {
+        Some(i) => Pieces {
+            front: &text[..i],
+            rest: Some(&text[i + 1..]),
+        },
+        None => Pieces {
+            front: text,
+            rest: None,
+        },
     }
 }
 
@@ -37,34 +35,28 @@ pub fn cut(text: &[u8], mark: u8) -> Pieces<'_>
 pub fn split_lines(heap: Global, text: &[u8]) -> Result<Vec<&[u8]>, AllocError>
     ensures { IfOk result (λ v. map (λ x. x.now) v.items ≡ lines_of text.now) }
 {
-    let mut lines = Vec::new(heap);
-    let mut rest = text;
-    while !rest.is_empty() {
-        let here = cut(rest, b'\n');
-        lines.push(here.front)?;
-        rest = here.rest.unwrap_or(&[]);
-    }
-    Ok(lines)
+    text.split_inclusive(|b| *b == b'\n')
+        .map(without_end)
+        .collect(heap)
+}
+
+fn without_end(line: &[u8]) -> &[u8]
+    ensures { result.now ≡ without_end line.now }
+{
+    line.strip_suffix(b"\n").unwrap_or(line)
 }
 
 // A number of 1 to 10 digits that fits 32 bits.
 pub fn number(word: &[u8]) -> Option<u32>
     ensures { result ≡ number_of word.now }
 {
-    if word.is_empty() || word.len() > 10 {
+    if word.len() > 10 {
         return None;
     }
-    let mut value: u64 = 0;
-    for c in word {
-        if !c.is_ascii_digit() {
-            return None;
-        }
-        value = value * 10 + (*c - b'0') as u64;
-    }
-    if value > u32::MAX as u64 {
+    if !word.iter().all(u8::is_ascii_digit) {
         return None;
     }
-    Some(value as u32)
+    str::from_utf8(word).ok()?.parse().ok()
 }
 
 // A text that is just K numbers, one blank between.
@@ -73,15 +65,12 @@ pub fn numbers<const K: usize>(text: &[u8]) -> Option<[u32; K]>
 {
     let mut found = [0; K];
     let mut rest = Some(text);
-    for i in 0..K {
-        let here = cut(rest?, b' ');
-        found[i] = number(here.front)?;
-        rest = here.rest;
+    for slot in &mut found {
+        let word = cut(rest?, b' ');
+        *slot = number(word.front)?;
+        rest = word.rest;
     }
-    match rest {
-        Some(_) => None,
-        None => Some(found),
-    }
+    rest.is_none().then_some(found)
 }
 
 #[cfg(test)]

@@ -1,10 +1,10 @@
 -- What the numbers of a working stay below, and which cells a draw reads, for code that works it in memory. Assumes nothing.
-use Rattle.std.proofs.Common.{◌≡◌, ℕ, zero, suc, ◌+◌, ◌*◌, ◌^◌, ◌<◌, ◌≤◌, Bool, List, [], ◌∷◌, length, refl, ap, mul-le-mul_right, add-mul, mul-le-mul, mul-le-mul_left, arith}
+use Rattle.std.proofs.Common.{◌≡◌, ℕ, zero, suc, ◌+◌, ◌*◌, ◌^◌, ◌<◌, ◌≤◌, Bool, List, [], ◌∷◌, length, refl, mul-le-mul_right, mul-le-mul, mul-le-mul_left, arith}
 use Rattle.std.specs.List.{AllByRecursion}
 use Rattle.draws.specs.Draws.{DrawMeaning, Allowed, Reel, Lawful, lists}
 use Rattle.draws.specs.Tallies.{count_below_most}
 use Rattle.draws.proofs.Recurrence.{lists_allowed, all_positive}
-use Rattle.plans.specs.Working.{whole, divide, before, moved, sum_below, cleared, start_row}
+use Rattle.plans.specs.Working.{whole, before, moved, sum_below, cleared, start_row}
 use Rattle.plans.proofs.Sums.{sum_le, sum_longer}
 use Rattle.plans.proofs.Widths.{onward}
 use Rattle.plans.proofs.Spread.{cleared_less}
@@ -15,10 +15,7 @@ ways_few m law N reel k short = from_one (lists m N k) (lists_allowed m N k) (al
   where
     from_one : (ls : List (List ℕ)) → AllByRecursion (λ l. Allowed m N l × (length l ≡ k)) ls → 0 < length ls → m.good N 0 k 0 ≤ N
     from_one [] every some = absurd (omega arith)
-    from_one (l ∷ ls) every some =
-        let alike = law.alike N reel l every.0.0 (omega (arith, every.0.1)) in
-        let ways = ap (λ n. m.good N 0 n 0) every.0.1 in
-        omega (arith, count_below_most (m.follows N l) N)
+    from_one (l ∷ ls) every some = grind (arith, law.alike N reel l every.0.0, count_below_most (m.follows N l) N)
 
 pub start_sum : (c : ℕ) → sum_below start_row (suc c) ≡ whole
 start_sum zero = refl
@@ -40,11 +37,13 @@ module _ (good bad : ℕ → ℕ) (t : ℕ) (most : (d : ℕ) → good d + bad d
   -- what is divided at a draw is at most t times the row
   pub undivided_most : (row : ℕ → ℕ) (d n : ℕ) → d < n → onward good bad row d ≤ sum_below row n * t
   undivided_most row d n lt =
-      let less : good d ≤ t = omega (arith, most d) in
-      let here = mul-le-mul_left (row d) less in
-      let two = mul-le-mul_right t (two_cells row d) in
-      let longer = mul-le-mul_right t (sum_longer row (suc d) n lt) in
-      omega (arith, before_most row d, add-mul (row d) (before row d) t)
+      omega (
+        arith,
+        before_most row d,
+        mul-le-mul_left (row d) (most d),
+        mul-le-mul_right t (two_cells row d),
+        mul-le-mul_right t (sum_longer row (suc d) n lt),
+      )
 
   -- so it fits 64 bits, rounded up or down, while a row of at most 256 cells is worked for at most 32,768 draws
   pub undivided_fits : (row : ℕ → ℕ) (d n : ℕ) → d < n → t ≤ 1000000 → sum_below row n ≤ whole + 32768 * 256 → onward good bad row d + t < 2 ^ 64
@@ -52,9 +51,9 @@ module _ (good bad : ℕ → ℕ) (t : ℕ) (most : (d : ℕ) → good d + bad d
 
 -- a draw's new cell is made from that cell and the one before it
 pub moved_same : (up : Bool) (good bad : ℕ → ℕ) (t : ℕ) (row other : ℕ → ℕ) (d : ℕ) → ((c : ℕ) → c ≤ d → row c ≡ other c) → moved up good bad t row d ≡ moved up good bad t other d
-moved_same up good bad t row other zero same = ap (λ x. divide up (x * good 0 + 0) t) (same 0 (omega arith))
-moved_same up good bad t row other (suc d) same = (λ i. divide up (same (suc d) (omega arith) i * good (suc d) + same d (omega arith) i * bad d) t)
+moved_same up good bad t row other zero same = grind (arith, same 0)
+moved_same up good bad t row other (suc d) same = grind (arith, same (suc d), same d)
 
 pub sum_same_below : (row other : ℕ → ℕ) (n : ℕ) → ((c : ℕ) → c < n → row c ≡ other c) → sum_below row n ≡ sum_below other n
 sum_same_below row other zero same = refl
-sum_same_below row other (suc n) same = (λ i. sum_same_below row other n (λ c h. same c (omega arith)) i + same n (omega arith) i)
+sum_same_below row other (suc n) same = grind (arith, sum_same_below row other n, same n)

@@ -1,7 +1,5 @@
 -- For every lawful rule the working's two answers enclose the exact chance of PASS, closely. Assumes nothing.
-use Rattle.std.proofs.Common.{◌≡◌, ℕ, zero, suc, ◌+◌, ◌-◌, ◌*◌, ◌≤◌, min, Bool, true, false, List, sym, refl, ap, subst, ⊎_elim, mul_assoc, zero-add, add-one, arith}
-use native.Mathlib.Nat.{min-eq_left, min-eq_right}
-use Rattle.std.proofs.lemmas.Bool.{cases_lt}
+use Rattle.std.proofs.Common.{mul-le-mul_right, ◌≡◌, ℕ, zero, suc, ◌+◌, ◌-◌, ◌*◌, ◌≤◌, min, Bool, true, false, List, refl, subst, zero-add, arith}
 use Rattle.draws.specs.Counting.{count_below}
 use Rattle.draws.specs.Draws.{DrawMeaning, Reel, Lawful, lists}
 use Rattle.draws.specs.Tallies.{count_in_most}
@@ -21,11 +19,7 @@ no_gap row (suc n) = omega (arith, no_gap row n)
 
 -- what is at most a certainty stays below an answer cut to a certainty
 cut : (count all answer : ℕ) → count ≤ all → count * whole ≤ answer * all → count * whole ≤ min whole answer * all
-cut count all answer few h =
-    ⊎_elim
-    (λ lt. subst (λ n. count * whole ≤ n * all) (sym (min-eq_left (omega arith))) (omega arith))
-    (λ ge. subst (λ n. count * whole ≤ n * all) (sym (min-eq_right ge)) h)
-    (cases_lt whole answer)
+cut count all answer few h = grind (arith, mul-le-mul_right whole few)
 
 module _ (m : DrawMeaning) (law : Lawful m) (N : ℕ) (reel : Reel N) where
   pub passing_side : (is_bad : ℕ → Bool) (up : Bool) (samples : List Sample) → total samples ≤ m.longest N → Side up ((worked_from0 up m N (count_below is_bad N) samples).units * all m N samples) (passing m N is_bad samples * whole)
@@ -38,12 +32,11 @@ module _ (m : DrawMeaning) (law : Lawful m) (N : ℕ) (reel : Reel N) where
 
   pub ends_close : (D : ℕ) (samples : List Sample) → AcceptsUpTo (last_accept samples) samples → total samples ≤ m.longest N → high_of m N D samples ≤ low_of m N D samples + 2 * total samples * (last_accept samples + 1)
   ends_close D samples fit le =
-      let gap = worked_gap m N D (λ k. law.some_follow N k reel) (ways_most m N law reel D) (last_accept samples) samples fit 0 start_row start_row (omega arith) in
-      let none = no_gap start_row (suc (last_accept samples)) in
-      let left = mul_assoc 2 (total samples) (last_accept samples + 1) in
-      let right = ap (λ n. total samples * n) (add-one (last_accept samples)) in
-      let regroup = mul_assoc (total samples) (suc (last_accept samples)) 2 in
-      omega arith
+      omega (
+        arith,
+        worked_gap m N D (λ k. law.some_follow N k reel) (ways_most m N law reel D) (last_accept samples) samples fit 0 start_row start_row (omega arith),
+        no_gap start_row (suc (last_accept samples)),
+      )
 
   pub encloses_at : (is_bad : ℕ → Bool) (D : ℕ) → count_below is_bad N ≡ D → (samples : List Sample) → AcceptsUpTo (last_accept samples) samples → total samples ≤ m.longest N → Encloses m N is_bad samples (low_of m N D samples) (high_of m N D samples)
   encloses_at is_bad D e samples fit le = subst (λ D. Encloses m N is_bad samples (low_of m N D samples) (high_of m N D samples)) e here

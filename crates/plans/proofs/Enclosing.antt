@@ -1,16 +1,13 @@
 -- The working's two answers are on their sides of the exact number of lists that end in PASS. Assumes nothing.
-use Rattle.std.proofs.Common.{◌≡◌, ℕ, zero, suc, ◌+◌, ◌*◌, ◌<◌, ◌≤◌, Bool, true, false, cond, List, [], ◌∷◌, length, refl, ap, ◌∙◌, subst, add-zero, add-suc, mul_right_comm, arith}
-use lib.Dec.{eqb-zero-suc}
-use Rattle.std.proofs.lemmas.Bool.{and_right}
+use Rattle.std.proofs.Common.{◌≡◌, ℕ, zero, suc, ◌+◌, ◌*◌, ◌<◌, ◌≤◌, Bool, true, List, [], ◌∷◌, length, refl, ap, ◌∙◌, subst, add-zero, add-suc, arith}
+use Rattle.std.proofs.lemmas.Bool.Decides.{nat_tests}
 use Rattle.draws.specs.Counting.{count_below, count_in}
 use Rattle.draws.specs.Draws.{DrawMeaning, Reel, Lawful, lists, cell}
-use Rattle.draws.specs.Tallies.{count_in_none}
 use Rattle.draws.proofs.Recurrence.{all_more, all_positive}
 use Rattle.plans.specs.Plans.{Sample, total}
 use Rattle.plans.specs.Working.{whole, draw_on, draws_on, sum_below, cleared, worked, start_row}
 use Rattle.plans.proofs.Rounding.{Side, side_cast, side_same, side_zero, side_times, side_cancel, side_sum, sum_side, cleared_side, moved_side}
-use Rattle.plans.proofs.Counts.{count_same, all_any}
-use Rattle.plans.proofs.Cells.{Settled, accepted, sent_on, passes_on, accepted_settled, sent_on_settled, accepted_cells, sent_on_cells, passes_on_more, cells_more, counts_on}
+use Rattle.plans.proofs.Cells.{Settled, accepted, sent_on, passes_on, none_pass, accepted_settled, sent_on_settled, accepted_cells, sent_on_cells, passes_on_more, cells_more, counts_on}
 use Rattle.plans.proofs.Steps.{total_more, worked_more}
 
 -- each cell of a row is on its side of the exact cell after k frames
@@ -21,7 +18,7 @@ OnSide up m N is_bad w k row = (d : ℕ) → Side up (row d * length (lists m N 
 pub start_side : (up : Bool) (m : DrawMeaning) (N : ℕ) (is_bad : ℕ → Bool) → OnSide up m N is_bad (λ _. true) 0 start_row
 unfolding lists
 start_side up m N is_bad zero = side_same up whole
-start_side up m N is_bad (suc d) = side_cast up refl (ap (λ b. (cond {A = ℕ} b 1 0 + 0) * whole) (eqb-zero-suc d)) (side_same up 0)
+start_side up m N is_bad (suc d) = side_cast up refl (grind (arith, nat_tests)) (side_same up 0)
 
 module _ (m : DrawMeaning) (law : Lawful m) (N : ℕ) (reel : Reel N) (is_bad : ℕ → Bool) (up : Bool) where
   pub draws_side : (w : List ℕ → Bool) (from : ℕ) → Settled w from → (row : ℕ → ℕ) → OnSide up m N is_bad w from row → (count : ℕ) → from + count ≤ m.longest N → OnSide up m N is_bad w (from + count) (draws_on up m N (count_below is_bad N) from count row)
@@ -44,23 +41,15 @@ module _ (m : DrawMeaning) (law : Lawful m) (N : ℕ) (reel : Reel N) (is_bad : 
   held_side : (w : List ℕ → Bool) (k : ℕ) → Settled w k → (units : ℕ) → Side up (units * length (lists m N k)) (count_in w (lists m N k) * whole) → (j : ℕ) → k + j ≤ m.longest N → Side up (units * length (lists m N (k + j))) (count_in w (lists m N (k + j)) * whole)
   held_side w k stays units here j le =
       let n = length (lists m N k) in
-      let n' = length (lists m N (k + j)) in
       let c = count_in w (lists m N k) in
-      let c' = count_in w (lists m N (k + j)) in
-      side_cancel up (units * n') (c' * whole) n (all_positive m N law reel k (omega arith))
-      (side_cast up (mul_right_comm units n' n)
-      (mul_right_comm c' whole n ∙ ap (λ z. z * whole) (counts_on m law N reel w k stays j le) ∙ mul_right_comm c n' whole)
-      (side_times up (units * n) (c * whole) n' here))
-
-  none_pass : (w : List ℕ → Bool) (stage from end : ℕ) → count_in (passes_on is_bad w [] stage from) (lists m N end) ≡ 0
-  none_pass w stage from end =
-      count_same (λ _. Unit {0}) (passes_on is_bad w [] stage from) (λ _. false) (λ l _. and_right (w l) false refl) (lists m N end) (all_any (lists m N end))
-      ∙ count_in_none (lists m N end)
+      let o = length (lists m N (k + j)) in
+      side_cancel up (units * o) (count_in w (lists m N (k + j)) * whole) n (all_positive m N law reel k (omega arith))
+      (side_cast up (omega arith) (omega (arith, counts_on m law N reel w k stays j le)) (side_times up (units * n) (c * whole) o here))
 
   pub worked_side : (samples : List Sample) (w : List ℕ → Bool) (stage from : ℕ) → Settled w from → (row : ℕ → ℕ) → OnSide up m N is_bad w from row → (end : ℕ) → from + total samples ≡ end → end ≤ m.longest N → Side up ((worked up m N (count_below is_bad N) samples from row).units * length (lists m N end)) (count_in (passes_on is_bad w samples stage from) (lists m N end) * whole)
   unfolding worked
   worked_side [] w stage from stays row each end ends le =
-      side_cast up refl (ap (λ n. n * whole) (none_pass w stage from end)) (side_zero up (length (lists m N end)) whole)
+      side_cast up refl (ap (λ n. n * whole) (none_pass is_bad w stage from (lists m N end))) (side_zero up (length (lists m N end)) whole)
   worked_side (s ∷ rest) w stage from stays row each end ends le =
       let long = total_more s rest in
       let k = from + s.size in

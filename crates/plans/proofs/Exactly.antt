@@ -1,15 +1,13 @@
 -- The two exact counts by their recurrence, so that they can be computed without listing a list. Assumes nothing.
-use Rattle.std.proofs.Common.{◌≡◌, ℕ, zero, suc, ◌+◌, ◌*◌, Bool, true, false, cond, leb, List, [], ◌∷◌, sym, refl, ap, ◌∙◌, add-zero, add-suc, mul_assoc, zero-add, mul-one, arith}
-use lib.Dec.{eqb-zero-suc}
-use Rattle.std.proofs.lemmas.Bool.{and_right}
+use Rattle.std.proofs.Common.{◌≡◌, ℕ, zero, suc, ◌+◌, ◌*◌, Bool, true, cond, leb, List, [], ◌∷◌, sym, refl, ap, ◌∙◌, add-zero, add-suc, zero-add, arith}
+use Rattle.std.proofs.lemmas.Bool.Decides.{nat_tests}
 use Rattle.draws.specs.Counting.{count_below, count_in}
 use Rattle.draws.specs.Draws.{DrawMeaning, Reel, Lawful, lists, cell}
-use Rattle.draws.specs.Tallies.{count_in_none, count_in_every}
+use Rattle.draws.specs.Tallies.{count_in_every}
 use Rattle.plans.specs.Plans.{Sample, total}
 use Rattle.plans.specs.Exact.{all, passing}
 use Rattle.plans.specs.Working.{before, sum_below, cleared}
-use Rattle.plans.proofs.Counts.{count_same, all_any}
-use Rattle.plans.proofs.Cells.{Settled, accepted, sent_on, passes_on, accepted_settled, sent_on_settled, accepted_cells, sent_on_cells, passes_on_more, cells_more, counts_more}
+use Rattle.plans.proofs.Cells.{Settled, accepted, sent_on, passes_on, none_pass, accepted_settled, sent_on_settled, accepted_cells, sent_on_cells, passes_on_more, cells_more, counts_more}
 use Rattle.plans.proofs.Steps.{total_more}
 use Rattle.plans.proofs.Bounds.{sum_same_below}
 
@@ -36,42 +34,33 @@ one_list (suc d) = 0
 
 module _ (m : DrawMeaning) (law : Lawful m) (N : ℕ) (reel : Reel N) where
   ways_count : (w : List ℕ → Bool) (k : ℕ) → Settled w k → (j : ℕ) → count_in w (lists m N (k + j)) ≡ count_in w (lists m N k) * ways_on m N k j
-  ways_count w k stays zero = ap (λ n. count_in w (lists m N n)) (add-zero k) ∙ sym (mul-one (count_in w (lists m N k)))
-  ways_count w k stays (suc j) =
-      ap (λ n. count_in w (lists m N n)) (add-suc k j)
-      ∙ counts_more m law N reel w (k + j) (λ l f long. stays l f (omega arith))
-      ∙ ap (λ n. n * m.good N 0 (k + j) 0) (ways_count w k stays j)
-      ∙ mul_assoc (count_in w (lists m N k)) (ways_on m N k j) (m.good N 0 (k + j) 0)
+  ways_count w k stays zero = grind (arith, add-zero k)
+  ways_count w k stays (suc j) = grind (arith, add-suc k j, counts_more m law N reel w (k + j) (λ l f long. stays l f (omega arith)), ap (λ n. n * m.good N 0 (k + j) 0) (ways_count w k stays j))
 
   pub all_exactly : (samples : List Sample) → all m N samples ≡ ways_on m N 0 (total samples)
   unfolding all lists
-  all_exactly samples =
-      sym (count_in_every (lists m N (total samples)))
-      ∙ ap (λ n. count_in (λ _. true) (lists m N n)) (sym (zero-add (total samples)))
-      ∙ ways_count (λ _. true) 0 (λ l f h. refl) (total samples) ∙ omega arith
+  all_exactly samples = grind (arith, count_in_every (lists m N (total samples)), zero-add (total samples), ways_count (λ _. true) 0 (λ l f h. refl) (total samples))
 
   module _ (is_bad : ℕ → Bool) where
     draws_exactly : (w : List ℕ → Bool) (from : ℕ) → Settled w from → (row : ℕ → ℕ) → ((d : ℕ) → cell m N w is_bad from d ≡ row d) → (count d : ℕ) → cell m N w is_bad (from + count) d ≡ exact_draws m N (count_below is_bad N) from count row d
-    draws_exactly w from stays row each zero d = ap (λ k. cell m N w is_bad k d) (add-zero from) ∙ each d
-    draws_exactly w from stays row each (suc i) d =
-        ap (λ k. cell m N w is_bad k d) (add-suc from i)
-        ∙ cells_more m law N reel is_bad w (from + i) (λ l f long. stays l f (omega arith)) d
-        ∙ next d (draws_exactly w from stays row each i)
-      where
-        old : ℕ → ℕ
-        old = cell m N w is_bad (from + i)
-
-        new : ℕ → ℕ
-        new = exact_draws m N (count_below is_bad N) from i row
-
-        next : (d : ℕ) → ((c : ℕ) → old c ≡ new c) → old d * m.good N (count_below is_bad N) (from + i) d + before (λ c. old c * m.bad N (count_below is_bad N) (from + i) c) d ≡ new d * m.good N (count_below is_bad N) (from + i) d + before (λ c. new c * m.bad N (count_below is_bad N) (from + i) c) d
-        next zero same = ap (λ x. x * m.good N (count_below is_bad N) (from + i) 0 + 0) (same 0)
-        next (suc d) same = (λ t. same (suc d) t * m.good N (count_below is_bad N) (from + i) (suc d) + same d t * m.bad N (count_below is_bad N) (from + i) d)
+    draws_exactly w from stays row each zero d = grind (arith, add-zero from, each d)
+    draws_exactly w from stays row each (suc i) zero = grind (
+      arith,
+      add-suc from i,
+      cells_more m law N reel is_bad w (from + i) (λ l f long. stays l f (omega arith)) 0,
+      draws_exactly w from stays row each i 0,
+    )
+    draws_exactly w from stays row each (suc i) (suc d) = grind (
+      arith,
+      add-suc from i,
+      cells_more m law N reel is_bad w (from + i) (λ l f long. stays l f (omega arith)) (suc d),
+      draws_exactly w from stays row each i (suc d),
+      draws_exactly w from stays row each i d,
+    )
 
     samples_exactly : (samples : List Sample) (w : List ℕ → Bool) (stage from : ℕ) → Settled w from → (row : ℕ → ℕ) → ((d : ℕ) → cell m N w is_bad from d ≡ row d) → (end : ℕ) → from + total samples ≡ end → count_in (passes_on is_bad w samples stage from) (lists m N end) ≡ exactly m N (count_below is_bad N) samples from row
     samples_exactly [] w stage from stays row each end ends =
-        count_same (λ _. Unit {0}) (passes_on is_bad w [] stage from) (λ _. false) (λ l _. and_right (w l) false refl) (lists m N end) (all_any (lists m N end))
-        ∙ count_in_none (lists m N end)
+        none_pass is_bad w stage from (lists m N end)
     samples_exactly (s ∷ rest) w stage from stays row each end ends =
         let long = total_more s rest in
         let k = from + s.size in
@@ -91,4 +80,4 @@ module _ (m : DrawMeaning) (law : Lawful m) (N : ℕ) (reel : Reel N) where
       where
         start : (d : ℕ) → cell m N (λ _. true) is_bad 0 d ≡ one_list d
         start zero = refl
-        start (suc d) = ap (λ b. cond {A = ℕ} b 1 0 + 0) (eqb-zero-suc d)
+        start (suc d) = grind (arith, nat_tests)

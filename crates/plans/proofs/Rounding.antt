@@ -1,5 +1,5 @@
 -- A number on its side of another, rounded down or up, and that one rounded draw keeps a row on its side of the exact cells. Assumes nothing.
-use Rattle.std.proofs.Common.{◌≡◌, ℕ, zero, suc, ◌+◌, ◌-◌, ◌*◌, ◌<◌, ◌≤◌, Bool, true, false, cond, sym, ap, ◌∙◌, le_refl, mul-le-mul_right, mul_assoc, mul_comm, add-mul, zero-mul, mul_right_comm, div-mul-le_self, le_of_mul-le-mul_right, arith}
+use Rattle.std.proofs.Common.{◌≡◌, ℕ, zero, suc, ◌+◌, ◌-◌, ◌*◌, ◌<◌, ◌≤◌, Bool, true, false, ap, mul-le-mul_right, add-mul, zero-mul, mul_right_comm, div-mul-le_self, le_of_mul-le-mul_right, arith}
 use native.Mathlib.Nat.{lt-div-mul-add}
 use Rattle.plans.specs.Working.{divide, before, moved, sum_below, cleared}
 
@@ -9,23 +9,19 @@ Side false a b = a ≤ b
 Side true a b = b ≤ a
 
 pub side_cast : (up : Bool) {a b c d : ℕ} → a ≡ c → b ≡ d → Side up c d → Side up a b
-side_cast false p q h = omega arith
-side_cast true p q h = omega arith
+side_cast up p q h = grind arith
 
 pub side_same : (up : Bool) (a : ℕ) → Side up a a
-side_same false a = le_refl a
-side_same true a = le_refl a
+side_same up a = grind arith
 
 pub side_zero : (up : Bool) (a b : ℕ) → Side up (0 * a) (0 * b)
 side_zero up a b = side_cast up (zero-mul a) (zero-mul b) (side_same up 0)
 
 pub side_trans : (up : Bool) (a b c : ℕ) → Side up a b → Side up b c → Side up a c
-side_trans false a b c h k = omega arith
-side_trans true a b c h k = omega arith
+side_trans up a b c h k = grind arith
 
 pub side_add : (up : Bool) (a b c d : ℕ) → Side up a b → Side up c d → Side up (a + c) (b + d)
-side_add false a b c d h k = omega arith
-side_add true a b c d h k = omega arith
+side_add up a b c d h k = grind arith
 
 pub side_times : (up : Bool) (a b k : ℕ) → Side up a b → Side up (a * k) (b * k)
 side_times false a b k h = mul-le-mul_right k h
@@ -65,19 +61,12 @@ module _ (up : Bool) (n u : ℕ) where
   sum_side f h each (suc k) = side_sum up (sum_below f k) (sum_below h k) (f k) (h k) n u (sum_side f h each k) (each k)
 
   pub cleared_side : (f h : ℕ → ℕ) → ((d : ℕ) → Side up (f d * n) (h d * u)) → (accept reject d : ℕ) → Side up (cleared accept reject f d * n) (cleared accept reject h d * u)
-  cleared_side f h each accept reject d = kept (lib.Dec.leb d accept) (lib.Dec.leb reject d)
-    where
-      kept : (x y : Bool) → Side up (cond x 0 (cond y 0 (f d)) * n) (cond x 0 (cond y 0 (h d)) * u)
-      kept true y = side_zero up n u
-      kept false true = side_zero up n u
-      kept false false = each d
+  cleared_side f h each accept reject d = grind (arith, side_zero up n u, each d)
 
   -- one draw: the exact cells move by good and bad, the number of lists by t
   pub moved_side : (good bad : ℕ → ℕ) (t : ℕ) (row exact next : ℕ → ℕ) → 0 < t → ((d : ℕ) → next d ≡ exact d * good d + before (λ c. exact c * bad c) d) → ((d : ℕ) → Side up (row d * n) (exact d * u)) → (d : ℕ) → Side up (moved up good bad t row d * (n * t)) (next d * u)
   moved_side good bad t row exact next pos step each d =
-      side_cast up
-      (ap (λ z. moved up good bad t row d * z) (mul_comm n t) ∙ sym (mul_assoc (moved up good bad t row d) t n))
-      (ap (λ z. z * u) (step d))
+      side_cast up (omega arith) (ap (λ z. z * u) (step d))
       (side_trans up (moved up good bad t row d * t * n) (undivided * n) ((exact d * good d + before (λ c. exact c * bad c) d) * u)
       (side_times up (moved up good bad t row d * t) undivided n (divide_side up undivided t pos))
       (side_sum up (row d * good d) (exact d * good d) (before (λ c. row c * bad c) d) (before (λ c. exact c * bad c) d) n u

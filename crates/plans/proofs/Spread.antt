@@ -1,6 +1,6 @@
 -- How far the two answers of a working part, and how large a row grows, over all samples. Assumes nothing.
-use Rattle.std.proofs.Common.{◌≡◌, ℕ, zero, suc, ◌+◌, ◌-◌, ◌*◌, ◌<◌, ◌≤◌, Bool, true, false, cond, leb, List, [], ◌∷◌, ap, le_refl, suc-mul, add-mul, zero-mul, arith}
-use Rattle.std.proofs.lemmas.Bool.{le-leb}
+use Rattle.std.proofs.Common.{◌≡◌, ℕ, zero, suc, ◌+◌, ◌-◌, ◌*◌, ◌<◌, ◌≤◌, Bool, true, false, List, [], ◌∷◌, ap, suc-mul, zero-mul, arith}
+use Rattle.std.proofs.lemmas.Bool.Decides.{nat_tests}
 use Rattle.draws.specs.Draws.{DrawMeaning}
 use Rattle.plans.specs.Plans.{Sample, total, AcceptsUpTo}
 use Rattle.plans.specs.Working.{draw_on, draws_on, sum_below, cleared, worked}
@@ -10,23 +10,13 @@ use Rattle.plans.proofs.Steps.{total_more, worked_more}
 
 -- a cleared cell holds no more than it held, and nothing up to accept
 pub cleared_less : (accept reject : ℕ) (row : ℕ → ℕ) (d : ℕ) → cleared accept reject row d ≤ row d
-cleared_less accept reject row d = by (leb d accept) (leb reject d)
-  where
-    by : (x y : Bool) → cond x 0 (cond y 0 (row d)) ≤ row d
-    by true y = omega arith
-    by false true = omega arith
-    by false false = omega arith
+cleared_less accept reject row d = grind arith
 
 cleared_gone : (accept reject : ℕ) (row : ℕ → ℕ) (d : ℕ) → d ≤ accept → cleared accept reject row d ≡ 0
-cleared_gone accept reject row d h = ap (λ b. cond b 0 (cond (leb reject d) 0 (row d))) (le-leb d accept h)
+cleared_gone accept reject row d h = grind (arith, nat_tests)
 
 gap_less : (accept reject : ℕ) (low high : ℕ → ℕ) (d : ℕ) → cleared accept reject high d - cleared accept reject low d ≤ high d - low d
-gap_less accept reject low high d = by (leb d accept) (leb reject d)
-  where
-    by : (x y : Bool) → cond x 0 (cond y 0 (high d)) - cond x 0 (cond y 0 (low d)) ≤ high d - low d
-    by true y = omega arith
-    by false true = omega arith
-    by false false = le_refl (high d - low d)
+gap_less accept reject low high d = grind arith
 
 -- two sums part by at most the sum of the gaps
 gap_sum : (low high : ℕ → ℕ) (n : ℕ) → sum_below high n ≤ sum_below low n + sum_below (λ d. high d - low d) n
@@ -41,8 +31,11 @@ module _ (m : DrawMeaning) (N D : ℕ)
   draws_grow up from row n zero le = omega arith
   draws_grow up from row n (suc i) le =
       let short : from + i < m.longest N = omega arith in
-      let here = row_grows (m.good N D (from + i)) (m.bad N D (from + i)) (m.good N 0 (from + i) 0) (some (from + i) short) (λ d. most (from + i) d short) up (draws_on up m N D from i row) n in
-      omega (arith, here, draws_grow up from row n i (omega arith), suc-mul i n)
+      omega (
+        arith,
+        row_grows (m.good N D (from + i)) (m.bad N D (from + i)) (m.good N 0 (from + i) 0) (some (from + i) short) (λ d. most (from + i) d short) up (draws_on up m N D from i row) n,
+        draws_grow up from row n i (omega arith),
+      )
 
   pub draws_gap : (from : ℕ) (low high : ℕ → ℕ) (n count : ℕ) → from + count ≤ m.longest N → sum_below (λ d. draws_on true m N D from count high d - draws_on false m N D from count low d) n ≤ sum_below (λ d. high d - low d) n + count * (n * 2)
   unfolding draws_on draw_on
@@ -57,31 +50,22 @@ module _ (m : DrawMeaning) (N D : ℕ)
   unfolding worked
   worked_grows up a [] fit from row le = omega arith
   worked_grows up a (s ∷ rest) fit from row le =
-      let long = total_more s rest in
       let next = draws_on up m N D from s.size row in
-      let later = worked_grows up a rest fit.1 (from + s.size) (cleared s.accept s.reject next) (omega arith) in
-      let here = draws_grow up from row (suc a) s.size (omega arith) in
+      let later = worked_grows up a rest fit.1 (from + s.size) (cleared s.accept s.reject next) (omega (arith, total_more s rest)) in
+      let here = draws_grow up from row (suc a) s.size (omega (arith, total_more s rest)) in
       let split = sum_split next (cleared s.accept s.reject next) s.accept (cleared_less s.accept s.reject next) (cleared_gone s.accept s.reject next) (suc a) (omega (arith, fit.0)) in
-      let more = worked_more up m N D s rest from row in
-      let sizes = add-mul s.size (total rest) (suc a) in
-      let same = ap (λ n. n * suc a) long in
-      omega arith
+      omega (arith, worked_more up m N D s rest from row, ap (λ n. n * suc a) (total_more s rest))
 
   -- the two answers part by at most what the rows do, and two units a cell and draw
   pub worked_gap : (most_accept : ℕ) (samples : List Sample) → AcceptsUpTo most_accept samples → (from : ℕ) (low high : ℕ → ℕ) → from + total samples ≤ m.longest N → (worked true m N D samples from high).units ≤ (worked false m N D samples from low).units + (sum_below (λ d. high d - low d) (suc most_accept) + total samples * (suc most_accept * 2))
   unfolding worked
   worked_gap a [] fit from low high le = omega arith
   worked_gap a (s ∷ rest) fit from low high le =
-      let long = total_more s rest in
       let low' = draws_on false m N D from s.size low in
       let high' = draws_on true m N D from s.size high in
       let clear : (ℕ → ℕ) → ℕ → ℕ = cleared s.accept s.reject in
-      let later = worked_gap a rest fit.1 (from + s.size) (clear low') (clear high') (omega arith) in
-      let here = draws_gap from low high (suc a) s.size (omega arith) in
+      let later = worked_gap a rest fit.1 (from + s.size) (clear low') (clear high') (omega (arith, total_more s rest)) in
+      let here = draws_gap from low high (suc a) s.size (omega (arith, total_more s rest)) in
       let split = sum_split (λ d. high' d - low' d) (λ d. clear high' d - clear low' d) s.accept (gap_less s.accept s.reject low' high') (λ d h. omega (arith, cleared_gone s.accept s.reject high' d h)) (suc a) (omega (arith, fit.0)) in
       let apart = gap_sum low' high' (suc s.accept) in
-      let more_low = worked_more false m N D s rest from low in
-      let more_high = worked_more true m N D s rest from high in
-      let sizes = add-mul s.size (total rest) (suc a * 2) in
-      let same = ap (λ n. n * (suc a * 2)) long in
-      omega arith
+      omega (arith, worked_more false m N D s rest from low, worked_more true m N D s rest from high, ap (λ n. n * (suc a * 2)) (total_more s rest))

@@ -1,6 +1,5 @@
 -- Sums of the first cells of a row. Assumes nothing.
-use Rattle.std.proofs.Common.{◌≡◌, ℕ, zero, suc, ◌+◌, ◌*◌, ◌<◌, ◌≤◌, sym, refl, ap, ◌∙◌, ⊎_elim, le_refl, suc-mul, add-mul, zero-mul, arith}
-use Rattle.std.proofs.lemmas.Bool.{cases_lt}
+use Rattle.std.proofs.Common.{◌≡◌, ℕ, zero, suc, ◌+◌, ◌*◌, ◌<◌, ◌≤◌, refl, ap, le_refl, suc-mul, add-mul, arith}
 use Rattle.plans.specs.Working.{before, sum_below}
 
 pub sum_le : (f g : ℕ → ℕ) → ((d : ℕ) → f d ≤ g d) → (n : ℕ) → sum_below f n ≤ sum_below g n
@@ -12,12 +11,12 @@ sum_add f g zero = refl
 sum_add f g (suc n) = omega (arith, sum_add f g n)
 
 pub sum_times : (f : ℕ → ℕ) (k n : ℕ) → sum_below (λ d. f d * k) n ≡ sum_below f n * k
-sum_times f k zero = sym (zero-mul k)
-sum_times f k (suc n) = ap (λ z. z + f n * k) (sum_times f k n) ∙ sym (add-mul (sum_below f n) (f n) k)
+sum_times f k zero = omega arith
+sum_times f k (suc n) = grind (arith, sum_times f k n, add-mul (sum_below f n) (f n) k)
 
 pub sum_same : (c n : ℕ) → sum_below (λ d. c) n ≡ n * c
-sum_same c zero = sym (zero-mul c)
-sum_same c (suc n) = ap (λ z. z + c) (sum_same c n) ∙ sym (suc-mul n c)
+sum_same c zero = omega arith
+sum_same c (suc n) = omega (arith, sum_same c n, suc-mul n c)
 
 pub sum_before : (f : ℕ → ℕ) (n : ℕ) → sum_below (before f) (suc n) ≡ sum_below f n
 sum_before f zero = refl
@@ -28,13 +27,9 @@ sum_before_le f zero = le_refl 0
 sum_before_le f (suc n) = omega (arith, sum_before f n)
 
 pub sum_longer : (f : ℕ → ℕ) (n k : ℕ) → n ≤ k → sum_below f n ≤ sum_below f k
-sum_longer f n zero h = omega (arith, none n h)
-  where
-    none : (n : ℕ) → n ≤ 0 → sum_below f n ≤ 0
-    none zero h = le_refl 0
-    none (suc n) h = absurd (omega arith)
-sum_longer f n (suc k) h =
-    ⊎_elim (λ lt. omega (arith, sum_longer f n k (omega arith))) (λ ge. at (omega arith)) (cases_lt n (suc k))
+sum_longer f zero zero h = omega arith
+sum_longer f (suc n) zero h = absurd (omega arith)
+sum_longer f n (suc k) h = grind (arith, sum_longer f n k, at)
   where
     at : n ≡ suc k → sum_below f n ≤ sum_below f (suc k)
     at e = omega (arith, ap (sum_below f) e)
@@ -42,12 +37,8 @@ sum_longer f n (suc k) h =
 -- the cells up to accept, and what a row holds of those behind it, are at most the whole row
 pub sum_split : (f rest : ℕ → ℕ) (accept : ℕ) → ((d : ℕ) → rest d ≤ f d) → ((d : ℕ) → d ≤ accept → rest d ≡ 0) → (n : ℕ) → accept < n → sum_below f (suc accept) + sum_below rest n ≤ sum_below f n
 sum_split f rest accept less gone zero h = absurd (omega arith)
-sum_split f rest accept less gone (suc n) h =
-    ⊎_elim (λ lt. omega (arith, sum_split f rest accept less gone n lt, less n)) (λ ge. at (omega arith)) (cases_lt accept n)
+sum_split f rest accept less gone (suc n) h = grind (arith, sum_split f rest accept less gone n, less n, gone n, none n)
   where
     none : (n : ℕ) → n ≤ suc accept → sum_below rest n ≡ 0
     none zero h = refl
     none (suc n) h = omega (arith, none n (omega arith), gone n (omega arith))
-
-    at : accept ≡ n → sum_below f (suc accept) + sum_below rest (suc n) ≤ sum_below f (suc n)
-    at e = omega (arith, none (suc n) (omega arith), ap (λ k. sum_below f (suc k)) e)

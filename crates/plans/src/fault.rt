@@ -1,10 +1,11 @@
 // Why a chance is not worked out, and why a plan is refused.
 ghost use Rattle.std.specs.Prelude.{◌≡◌, Some};
 ghost use Rattle.film.specs.Refusals.{refusal_text};
-ghost use Rattle.plans.specs.ChanceFaults.{chance_number, chance_place, chance_refusal};
-ghost use Rattle.plans.specs.Faults.{plan_number, plan_place, plan_refusal};
+ghost use Rattle.plans.specs.ChanceFaults.{chance_refusal};
+ghost use Rattle.plans.specs.Faults.{plan_refusal};
 ghost use Rattle.plans.specs.declared.fault.PlanFault.TheVariants.{Chance};
 
+use film::fault::{Fault, Printed};
 use std::fmt;
 
 #[derive(Clone, Copy, PartialEq, Eq, Debug)]
@@ -27,10 +28,10 @@ pub enum ChanceFault {
     NoSample(u32),
 }
 
-impl ChanceFault {
-    pub fn number(&self) -> u32
-        ensures { result ≡ chance_number self.now }
-    {
+impl Fault for ChanceFault {
+    ghost refusal = { chance_refusal };
+
+    fn number(&self) -> u32 {
         match self {
             ChanceFault::ReelSize => 21,
             ChanceFault::BadFrames(_) => 22,
@@ -43,19 +44,21 @@ impl ChanceFault {
         }
     }
 
-    pub fn place(&self) -> u32
-        ensures { result ≡ chance_place self.now }
-    {
+    fn place(&self) -> u32 {
         match self {
             ChanceFault::ReelSize => 0,
-            ChanceFault::BadFrames(bad) => *bad,
-            ChanceFault::ShortRow(cells) => *cells,
-            ChanceFault::TooManyDraws(draws) => *draws,
-            ChanceFault::Accept(accept) => *accept,
-            ChanceFault::Limit(limit) => *limit,
-            ChanceFault::Undecided(size) => *size,
-            ChanceFault::NoSample(size) => *size,
+            ChanceFault::BadFrames(n)
+            | ChanceFault::ShortRow(n)
+            | ChanceFault::TooManyDraws(n)
+            | ChanceFault::Accept(n)
+            | ChanceFault::Limit(n)
+            | ChanceFault::Undecided(n)
+            | ChanceFault::NoSample(n) => *n,
         }
+    }
+
+    fn layers(&self) -> &'static str {
+        "R"
     }
 }
 
@@ -63,9 +66,7 @@ impl fmt::Display for ChanceFault {
     ghost output = { λ fault. Some (refusal_text (chance_refusal fault)) };
 
     fn fmt<W: fmt::Write>(&self, f: &mut fmt::Formatter<W>) -> fmt::Result {
-        let number = self.number();
-        let place = self.place();
-        write!(f, "no {number} {place} R")
+        write!(f, "{}", Printed(self))
     }
 }
 
@@ -89,10 +90,10 @@ pub enum PlanFault {
     TooClose(u32),
 }
 
-impl PlanFault {
-    pub fn number(&self) -> u32
-        ensures { result ≡ plan_number self.now }
-    {
+impl Fault for PlanFault {
+    ghost refusal = { plan_refusal };
+
+    fn number(&self) -> u32 {
         match self {
             PlanFault::Size => 31,
             PlanFault::Accept => 32,
@@ -105,18 +106,23 @@ impl PlanFault {
         }
     }
 
-    pub fn place(&self) -> u32
-        ensures { result ≡ plan_place self.now }
-    {
+    fn place(&self) -> u32 {
         match self {
             PlanFault::Size => 1,
             PlanFault::Accept => 5,
             PlanFault::Disagree => 3,
-            PlanFault::Tolerance(bad) => *bad,
-            PlanFault::TooRisky(bad) => *bad,
-            PlanFault::TooClose(bad) => *bad,
-            PlanFault::Limit(limit) => *limit,
+            PlanFault::Tolerance(n)
+            | PlanFault::Limit(n)
+            | PlanFault::TooRisky(n)
+            | PlanFault::TooClose(n) => *n,
             PlanFault::Chance(fault) => fault.place(),
+        }
+    }
+
+    fn layers(&self) -> &'static str {
+        match self {
+            PlanFault::Chance(_) => "RP",
+            _ => "P",
         }
     }
 }
@@ -133,11 +139,6 @@ impl fmt::Display for PlanFault {
     ghost output = { λ fault. Some (refusal_text (plan_refusal fault)) };
 
     fn fmt<W: fmt::Write>(&self, f: &mut fmt::Formatter<W>) -> fmt::Result {
-        let number = self.number();
-        let place = self.place();
-        match self {
-            PlanFault::Chance(_) => write!(f, "no {number} {place} RP"),
-            _ => write!(f, "no {number} {place} P"),
-        }
+        write!(f, "{}", Printed(self))
     }
 }

@@ -7,8 +7,7 @@ pub mod fault;
 pub mod plan;
 
 // The worked plans and samples.
-pub fn examples() -> u8
+#[tactic(auto, using(crate::proofs::Worked::examples))]
+pub fn examples()
     ensures { Examples }
-{
-    0
-}
+{}

@@ -1,20 +1,17 @@
 // The planner's tool: the smallest samples that keep a limit, and the chance that a plan passes a reel.
 #![tactic(auto)]
 
-ghost use Rattle.std.specs.Prelude.{◌≡◌, ◌*◌, true, false};
+ghost use Rattle.std.specs.Prelude.{◌≡◌, ◌*◌};
 ghost use Rattle.plans.specs.Working.{divide, whole};
 
-use draws::rule::{DrawRule, WithReplacement, WithoutReplacement};
+use draws::name::RuleName;
 use lines::{numbers, split_lines};
-use plans::plan::Plan;
 use plans::plan::make::make;
-use sampling::chance::chance;
+use sampling::chance::{CELLS, Ends, chance};
+use sampling::limit::WHOLE;
 use sampling::smallest::smallest;
 use std::io::Read;
-use std::{env, io};
-
-// No plan accepts more than 255 bad frames, so no working needs more cells.
-const CELLS: usize = 256;
+use std::{env, fmt, io};
 
 // The accept numbers for which samples are looked for.
 const ACCEPT: [u32; 5] = [0, 1, 2, 5, 10];
@@ -36,8 +33,8 @@ fn run(rt: &HostRuntime) -> anyhow::Result<()> {
     if lines.is_empty() {
         usage(rt)?;
     }
-    for (i, line) in lines.as_slice().iter().enumerate() {
-        answer(rt, i.saturating_add(1), line)?;
+    for (at, text) in (1..).zip(lines.as_slice()) {
+        Line { rt, at }.answer(text)?;
     }
     Ok(())
 }
@@ -55,114 +52,96 @@ fn usage(rt: &HostRuntime) -> io::Result<()> {
     println!(rt; "rule 1 draws without replacement, rule 2 with; one blank between the numbers")
 }
 
-fn answer(rt: &HostRuntime, at: usize, line: &[u8]) -> io::Result<()> {
-    match line {
-        b"help" => usage(rt),
-        [b'n', b' ', rest @ ..] => answer_sizes(rt, at, rest),
-        [b'c', b' ', rest @ ..] => answer_chance(rt, at, rest),
-        _ => unreadable(rt, at),
-    }
-}
-
-fn unreadable(rt: &HostRuntime, at: usize) -> io::Result<()> {
-    println!(rt; "line {at}: cannot be read")
-}
-
-fn answer_sizes(rt: &HostRuntime, at: usize, text: &[u8]) -> io::Result<()> {
-    let Some(found) = numbers::<4>(text) else {
-        return unreadable(rt, at);
-    };
-    let [reel, code, tolerance, limit] = found;
-    match code {
-        1 => print_sizes(rt, at, &WithoutReplacement, reel, tolerance, limit),
-        2 => print_sizes(rt, at, &WithReplacement, reel, tolerance, limit),
-        _ => println!(rt; "line {at}: no rule {code}"),
-    }
-}
-
-fn print_sizes<R: DrawRule>(
-    rt: &HostRuntime,
+// A line of the input, by its number, and where it is answered.
+#[derive(Clone, Copy)]
+struct Line<'a> {
+    rt: &'a HostRuntime,
     at: usize,
-    rule: &R,
-    reel: u32,
-    tolerance: u32,
-    limit: u32,
-) -> io::Result<()> {
-    for accept in ACCEPT {
-        print_size(rt, at, rule, reel, tolerance, limit, accept)?;
-    }
-    Ok(())
 }
 
-fn print_size<R: DrawRule>(
-    rt: &HostRuntime,
-    at: usize,
-    rule: &R,
-    reel: u32,
-    tolerance: u32,
-    limit: u32,
-    accept: u32,
-) -> io::Result<()> {
-    let mut low = [0; CELLS];
-    let mut high = [0; CELLS];
-    match smallest(rule, reel, tolerance, limit, accept, &mut low, &mut high) {
-        Ok(size) => println!(rt; "line {at}: accept {accept}, sample {size}"),
-        Err(fault) => println!(rt; "line {at}: accept {accept}, {fault}"),
-    }
-}
-
-fn answer_chance(rt: &HostRuntime, at: usize, text: &[u8]) -> io::Result<()> {
-    let Some(found) = numbers::<8>(text) else {
-        return unreadable(rt, at);
-    };
-    let [reel, code, bad, n1, ac1, re1, n2, ac2] = found;
-    let plan = match make(n1, ac1, re1, n2, ac2) {
-        Ok(plan) => plan,
-        Err(fault) => return println!(rt; "line {at}: {fault}"),
-    };
-    match code {
-        1 => print_chance(rt, at, &WithoutReplacement, reel, bad, plan),
-        2 => print_chance(rt, at, &WithReplacement, reel, bad, plan),
-        _ => println!(rt; "line {at}: no rule {code}"),
-    }
-}
-
-fn print_chance<R: DrawRule>(
-    rt: &HostRuntime,
-    at: usize,
-    rule: &R,
-    reel: u32,
-    bad: u32,
-    plan: Plan,
-) -> io::Result<()> {
-    let mut low = [0; CELLS];
-    let mut high = [0; CELLS];
-    match chance(rule, reel, bad, plan, &mut low, &mut high) {
-        Ok(ends) => {
-            let lo = ends.lo;
-            let hi = ends.hi;
-            let least = millionths_down(lo);
-            let most = millionths_up(hi);
-            println!(rt;
-                "line {at}: chance {least} to {most} millionths, {lo} to {hi} units of one part in 2^40"
-            )
+impl Line<'_> {
+    fn answer(self, text: &[u8]) -> io::Result<()> {
+        match text {
+            b"help" => usage(self.rt),
+            [b'n', b' ', rest @ ..] => self.answer_sizes(rest),
+            [b'c', b' ', rest @ ..] => self.answer_chance(rest),
+            _ => self.unreadable(),
         }
-        Err(fault) => println!(rt; "line {at}: {fault}"),
+    }
+
+    fn say(self, what: impl fmt::Display + Drop) -> io::Result<()> {
+        let at = self.at;
+        println!(self.rt; "line {at}: {what}")
+    }
+
+    fn unreadable(self) -> io::Result<()> {
+        self.say("cannot be read")
+    }
+
+    // each refusal is said where it is met: an error enum with its three From would be longer
+    fn answer_sizes(self, text: &[u8]) -> io::Result<()> {
+        let Some(found) = numbers::<4>(text) else {
+            return self.unreadable();
+        };
+        let [reel, code, tolerance, limit] = found;
+        let rule = match RuleName::try_from(code) {
+            Ok(rule) => rule,
+            Err(unknown) => return self.say(unknown),
+        };
+        for accept in ACCEPT {
+            let mut low = [0; CELLS];
+            let mut high = [0; CELLS];
+            match smallest(&rule, reel, tolerance, limit, accept, &mut low, &mut high) {
+                Ok(size) => self.say(format_args!("accept {accept}, sample {size}"))?,
+                Err(fault) => self.say(format_args!("accept {accept}, {fault}"))?,
+            }
+        }
+        Ok(())
+    }
+
+    fn answer_chance(self, text: &[u8]) -> io::Result<()> {
+        let Some(found) = numbers::<8>(text) else {
+            return self.unreadable();
+        };
+        let [reel, code, bad, n1, ac1, re1, n2, ac2] = found;
+        let plan = match make(n1, ac1, re1, n2, ac2) {
+            Ok(plan) => plan,
+            Err(fault) => return self.say(fault),
+        };
+        let rule = match RuleName::try_from(code) {
+            Ok(rule) => rule,
+            Err(unknown) => return self.say(unknown),
+        };
+        let mut low = [0; CELLS];
+        let mut high = [0; CELLS];
+        match chance(&rule, reel, bad, plan, &mut low, &mut high) {
+            Ok(ends) => self.say(Shown(ends)),
+            Err(fault) => self.say(fault),
+        }
     }
 }
 
-// A certainty, in units.
-const WHOLE: u128 = 1_099_511_627_776;
+// The two ends, in millionths and in units.
+#[derive(Clone, Copy)]
+struct Shown(Ends);
 
-// Units in millionths, rounded outwards. In 128 bits, where no product wraps.
-fn millionths_down(units: u64) -> u128
-    ensures { result ≡ divide false (units * 1000000) whole }
-{
-    units as u128 * 1_000_000 / WHOLE
+impl fmt::Display for Shown {
+    fn fmt<W: fmt::Write>(&self, f: &mut fmt::Formatter<W>) -> fmt::Result {
+        let Ends { lo, hi } = self.0;
+        let least = millionths::<false>(lo);
+        let most = millionths::<true>(hi);
+        write!(
+            f,
+            "chance {least} to {most} millionths, {lo} to {hi} units of one part in 2^40"
+        )
+    }
 }
 
-fn millionths_up(units: u64) -> u128
-    ensures { result ≡ divide true (units * 1000000) whole }
+// Units in millionths, rounded up or down. In 128 bits, where no product wraps.
+fn millionths<const UP: bool>(units: u64) -> u128
+    ensures { result ≡ divide UP (units * 1000000) whole }
 {
-    (units as u128 * 1_000_000 + (WHOLE - 1)) / WHOLE
+    let whole = WHOLE as u128;
+    let more = if UP { whole - 1 } else { 0 };
+    (units as u128 * 1_000_000 + more) / whole
 }

@@ -3,6 +3,6 @@ pub mod Moves
 pub mod Phases
 pub mod Samples
 pub mod Promises
-pub mod Certifying
 pub mod Searching
 pub mod Truths
+pub mod Certifying

@@ -1,82 +1,69 @@
--- Rows in memory of which the first cells are written anew. Assumes nothing.
-use Rattle.std.proofs.Common.{◌≡◌, ℕ, ◌+◌, ◌-◌, ◌<◌, ◌≤◌, List, map, length, drop, set, sym, refl, ap, ◌∙◌, ⊎_elim, arith, length-append, length-drop, length-set}
-use Rattle.std.specs.List.{range_with_len}
-use Rattle.std.proofs.lemmas.List.{ext_get_or, get_or_append_left, get_or-append_right, get_or-drop, get_or-set_same, get_or-set_other}
-use Rattle.std.proofs.lemmas.List.FromFn.{length-map-range_with_len, get_or-map-range_with_len}
-use Rattle.std.proofs.lemmas.Bool.{cases_lt, cases_eq}
-use Rattle.sampling.specs.Rows.{cells_of, overlaid}
+-- Rows in memory, and what makes a row of cells. Assumes nothing.
+use Rattle.std.proofs.Common.{◌≡◌, ℕ, zero, suc, ◌+◌, ◌-◌, ◌<◌, ◌≤◌, List, ◌++◌, length, drop, set, replicate, sym, ap, ◌∙◌, arith, length-set, rules, ⊎_elim, cond, leb}
+use borrow.Rule.Slice.PartMut.{put_mid}
+use Rattle.std.proofs.lemmas.List.{places, length-replicate, get_or-replicate, get_or-set_same, get_or-set_other}
+use Rattle.std.proofs.lemmas.Bool.{cases_lt, le-leb, lt-leb}
+use Rattle.std.proofs.lemmas.List.FromFn.{length-map-range_with_len, get_or-map-range_with_len, fill_by_all}
+use Rattle.plans.specs.Working.{whole, start_row, cleared}
+use Rattle.sampling.specs.Rows.{cells_of, row_of, overlaid}
 
-pub length_overlaid : (n : ℕ) (f : ℕ → ℕ) (old : List ℕ) → n ≤ length old → length (overlaid n f old) ≡ length old
-unfolding overlaid
-length_overlaid n f old le = omega (arith, length-append (map f (range_with_len 0 n)) (drop n old), length-map-range_with_len f 0 n, length-drop n old)
+pub length_row : (n : ℕ) (f : ℕ → ℕ) → length (row_of n f) ≡ n
+unfolding row_of
+length_row n f = length-map-range_with_len f 0 n
 
-pub overlaid_below : (n : ℕ) (f : ℕ → ℕ) (old : List ℕ) (c : ℕ) → c < n → cells_of (overlaid n f old) c ≡ f c
-unfolding overlaid
-overlaid_below n f old c lt =
-    get_or_append_left (map f (range_with_len 0 n)) (drop n old) 0 c (omega (arith, length-map-range_with_len f 0 n)) ∙ get_or-map-range_with_len f 0 n c c 0 lt (omega arith)
-
-pub overlaid_above : (n : ℕ) (f : ℕ → ℕ) (old : List ℕ) (c : ℕ) → n ≤ c → cells_of (overlaid n f old) c ≡ cells_of old c
-unfolding overlaid
-overlaid_above n f old c le =
-    get_or-append_right (map f (range_with_len 0 n)) (drop n old) n c 0 (length-map-range_with_len f 0 n) le ∙ get_or-drop n old (c - n) 0 ∙ ap (cells_of old) (omega arith)
+pub row_at : (n : ℕ) (f : ℕ → ℕ) (c : ℕ) → c < n → cells_of (row_of n f) c ≡ f c
+unfolding row_of
+row_at n f c lt = get_or-map-range_with_len f 0 n c c 0 lt (omega arith)
 
 -- a row is such a one if its cells are
-pub overlaid_from : (n : ℕ) (f : ℕ → ℕ) (old row : List ℕ) → n ≤ length old → length row ≡ length old → ((c : ℕ) → c < n → cells_of row c ≡ f c) → ((c : ℕ) → n ≤ c → cells_of row c ≡ cells_of old c) → row ≡ overlaid n f old
-overlaid_from n f old row le long anew kept =
-    ext_get_or 0 row (overlaid n f old) (long ∙ sym (length_overlaid n f old le))
-    (λ c lt. ⊎_elim (λ new. anew c new ∙ sym (overlaid_below n f old c new)) (λ rest. kept c rest ∙ sym (overlaid_above n f old c rest)) (cases_lt c n))
+pub row_from : (n : ℕ) (f : ℕ → ℕ) (row : List ℕ) → length row ≡ n → ((c : ℕ) → c < n → cells_of row c ≡ f c) → row ≡ row_of n f
+unfolding row_of
+row_from n f row long cells = fill_by_all f row n 0 long cells
 
-pub overlaid_same : (n : ℕ) (f g : ℕ → ℕ) (old : List ℕ) → n ≤ length old → ((c : ℕ) → c < n → f c ≡ g c) → overlaid n f old ≡ overlaid n g old
-overlaid_same n f g old le same =
-    overlaid_from n g old (overlaid n f old) le (length_overlaid n f old le) (λ c lt. overlaid_below n f old c lt ∙ same c lt) (λ c ge. overlaid_above n f old c ge)
+pub row_same : (n : ℕ) (f g : ℕ → ℕ) → ((c : ℕ) → c < n → f c ≡ g c) → row_of n f ≡ row_of n g
+row_same n f g same = row_from n g (row_of n f) (length_row n f) (λ c lt. row_at n f c lt ∙ same c lt)
 
--- what is written last stays
-pub overlaid_over : (n k : ℕ) (f g : ℕ → ℕ) (old : List ℕ) → k ≤ n → n ≤ length old → overlaid n f (overlaid k g old) ≡ overlaid n f old
-overlaid_over n k f g old few le =
-    let same = length_overlaid k g old (omega arith) in
-    overlaid_from n f old (overlaid n f (overlaid k g old)) le
-    (length_overlaid n f (overlaid k g old) (omega arith) ∙ same)
-    (overlaid_below n f (overlaid k g old))
-    (λ c ge. overlaid_above n f (overlaid k g old) c ge ∙ overlaid_above k g old c (omega arith))
+-- the first cells of a longer row in memory, worked in
+pub laid_over : (n : ℕ) (f : ℕ → ℕ) (old row : List ℕ) → row ≡ row_of n f → row ++ drop n old ≡ overlaid n f old
+unfolding row_of overlaid
+laid_over n f old row e = ap (λ r. r ++ drop n old) e
 
-pub overlaid_again : (n : ℕ) (f g : ℕ → ℕ) (old : List ℕ) → n ≤ length old → overlaid n f (overlaid n g old) ≡ overlaid n f old
-overlaid_again n f g old le = overlaid_over n n f g old (omega arith) le
-
-pub overlaid_none : (f : ℕ → ℕ) (old : List ℕ) → old ≡ overlaid 0 f old
-unfolding overlaid
-overlaid_none f old = refl
-
--- one cell more, written or as it was
-pub overlaid_set : (i v : ℕ) (f : ℕ → ℕ) (old : List ℕ) → i < length old → v ≡ f i → set (overlaid i f old) i v ≡ overlaid (i + 1) f old
-overlaid_set i v f old lt value =
-    let same = length_overlaid i f old (omega arith) in
-    overlaid_from (i + 1) f old (set (overlaid i f old) i v) (omega arith) (length-set (overlaid i f old) i v ∙ same)
-    (λ c below.
-    ⊎_elim
-    (λ here. ap (cells_of (set (overlaid i f old) i v)) here ∙ get_or-set_same (overlaid i f old) i v 0 (omega arith) ∙ value ∙ sym (ap f here))
-    (λ ne. get_or-set_other (overlaid i f old) i c v 0 ne ∙ overlaid_below i f old c (less i c below ne))
-    (cases_eq c i))
-    (λ c ge. get_or-set_other (overlaid i f old) i c v 0 (λ h. omega arith) ∙ overlaid_above i f old c (omega arith))
+-- a row filled with nothing, and a certainty in its first cell
+pub begun : (n : ℕ) (row : List ℕ) → 0 < n → row ≡ replicate n 0 → set row 0 whole ≡ row_of n start_row
+begun n row some e = row_from n start_row (set row 0 whole) (length-set row 0 whole ∙ long) cell
   where
-    less : (i c : ℕ) → c < i + 1 → (c ≡ i → ⊥) → c < i
-    less i c h ne = omega arith
+    long : length row ≡ n
+    long = ap length e ∙ length-replicate n 0
 
-pub overlaid_keep : (i : ℕ) (f : ℕ → ℕ) (old : List ℕ) → i < length old → cells_of old i ≡ f i → overlaid i f old ≡ overlaid (i + 1) f old
-overlaid_keep i f old lt value =
-    overlaid_from (i + 1) f old (overlaid i f old) (omega arith) (length_overlaid i f old (omega arith))
-    (λ c below. ⊎_elim (λ here. overlaid_below i f old c here) (λ ge. at c ge below) (cases_lt c i))
-    (λ c ge. overlaid_above i f old c (omega arith))
+    cell : (c : ℕ) → c < n → cells_of (set row 0 whole) c ≡ start_row c
+    cell zero lt = get_or-set_same row 0 whole 0 (omega (arith, long))
+    cell (suc c) lt = get_or-set_other row 0 (suc c) whole 0 (λ h. omega arith) ∙ ap (λ r. cells_of r (suc c)) e ∙ get_or-replicate n (suc c) 0 0 lt
+
+-- a cell that accepts or rejects is cleared, any other stays
+pub cleared_accept : (accept reject : ℕ) (row : ℕ → ℕ) (d : ℕ) → d ≤ accept → 0 ≡ cleared accept reject row d
+cleared_accept accept reject row d le = sym (ap (λ b. cond b 0 (cond (leb reject d) 0 (row d))) (le-leb d accept le))
+
+pub cleared_reject : (accept reject : ℕ) (row : ℕ → ℕ) (d : ℕ) → accept < d → reject ≤ d → 0 ≡ cleared accept reject row d
+cleared_reject accept reject row d gt le = sym (λ i. cond (lt-leb d accept gt i) 0 (cond (le-leb reject d le i) 0 (row d)))
+
+pub cleared_kept : (accept reject : ℕ) (row : ℕ → ℕ) (d : ℕ) → accept < d → d < reject → row d ≡ cleared accept reject row d
+cleared_kept accept reject row d gt lt = sym (λ i. cond (lt-leb d accept gt i) 0 (cond (lt-leb reject d lt i) 0 (row d)))
+
+-- the first cells up to an accept number and those from a reject number on, filled with nothing
+pub cleared_both : (accept reject i j : ℕ) (old front back : List ℕ) → accept < reject → reject ≤ length old → front ≡ replicate i 0 → i ≡ accept + 1 → back ≡ replicate j 0 → j ≡ length old - reject
+    → put_mid reject (length (front ++ drop (accept + 1) old) - reject) (front ++ drop (accept + 1) old) back ≡ row_of (length old) (cleared accept reject (cells_of old))
+cleared_both accept reject i j old front back apart few e ei f ej =
+    row_from (length old) (cleared accept reject (cells_of old)) _ (search (rules, places))
+    (λ c lt. ⊎_elim (λ gt. ⊎_elim (λ below. kept c gt below) (λ above. rejects c lt above) (cases_lt c reject)) (accepts c) (cases_lt accept c))
   where
-    at : (c : ℕ) → i ≤ c → c < i + 1 → cells_of (overlaid i f old) c ≡ f c
-    at c ge below = let here : c ≡ i = omega arith in overlaid_above i f old c ge ∙ ap (cells_of old) here ∙ value ∙ sym (ap f here)
+    now : List ℕ
+    now = put_mid reject (length (front ++ drop (accept + 1) old) - reject) (front ++ drop (accept + 1) old) back
 
--- a row is laid over by its own cells
-pub overlaid_self : (n : ℕ) (old : List ℕ) → n ≤ length old → old ≡ overlaid n (cells_of old) old
-overlaid_self n old le = overlaid_from n (cells_of old) old old le refl (λ c lt. refl) (λ c ge. refl)
+    accepts : (c : ℕ) → c ≤ accept → cells_of now c ≡ cleared accept reject (cells_of old) c
+    accepts c le = let zero_is : cells_of now c ≡ 0 = grind (arith, places) in zero_is ∙ cleared_accept accept reject (cells_of old) c le
 
--- a first cell written, and then as many from it on
-pub overlaid_first : (n : ℕ) (f : ℕ → ℕ) (old : List ℕ) → 0 < n → n ≤ length old → overlaid n f (set old 0 (f 0)) ≡ overlaid n f old
-overlaid_first n f old some le =
-    ap (λ r. overlaid n f (set r 0 (f 0))) (overlaid_none f old)
-    ∙ ap (overlaid n f) (overlaid_set 0 (f 0) f old (omega arith) refl)
-    ∙ overlaid_over n 1 f f old some le
+    rejects : (c : ℕ) → c < length old → reject ≤ c → cells_of now c ≡ cleared accept reject (cells_of old) c
+    rejects c lt ge = let zero_is : cells_of now c ≡ 0 = grind (arith, places) in zero_is ∙ cleared_reject accept reject (cells_of old) c (omega arith) ge
+
+    kept : (c : ℕ) → accept < c → c < reject → cells_of now c ≡ cleared accept reject (cells_of old) c
+    kept c gt lt = let old_is : cells_of now c ≡ cells_of old c = grind (arith, places) in old_is ∙ cleared_kept accept reject (cells_of old) c gt lt

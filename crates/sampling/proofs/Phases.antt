@@ -1,28 +1,16 @@
 -- Draw after draw and sample after sample worked in memory. Assumes nothing.
-use Rattle.std.proofs.Common.{◌≡◌, ℕ, zero, suc, ◌+◌, ◌*◌, ◌^◌, ◌<◌, ◌≤◌, Bool, cond, leb, List, length, sym, refl, ap, ◌∙◌, add-zero, add-mul, mul-le-mul, add-one, arith}
-use Rattle.std.proofs.lemmas.Bool.{le-leb, lt-leb}
+use Rattle.std.proofs.Common.{◌≡◌, ℕ, zero, suc, ◌+◌, ◌*◌, ◌^◌, ◌≤◌, ◌<◌, Bool, cond, leb, List, length, take, sum, map, sym, refl, ap, ◌∙◌, add-zero, add-mul, mul-le-mul, add-one, arith}
+use Rattle.std.specs.List.{range_with_len}
+use Rattle.std.proofs.lemmas.List.FromFn.{take-map-range_with_len, map-range_with_len_more}
+use Rattle.std.proofs.lemmas.List.Sums.{sum_by_push}
 use Rattle.draws.specs.Draws.{DrawMeaning, Reel, Lawful}
 use Rattle.draws.proofs.Recurrence.{ways_most}
 use Rattle.plans.specs.Working.{whole, draw_on, draws_on, sum_below, cleared, start_row}
 use Rattle.plans.proofs.Bounds.{sum_same_below, start_sum, cleared_sum}
 use Rattle.plans.proofs.Spread.{draws_grow}
-use Rattle.sampling.specs.Rows.{cells_of, overlaid, Roomy}
-use Rattle.sampling.proofs.Overlays.{length_overlaid, overlaid_below, overlaid_same, overlaid_again}
+use Rattle.sampling.specs.Rows.{cells_of, row_of, Roomy}
+use Rattle.sampling.proofs.Overlays.{length_row, row_at, row_same, row_from}
 use Rattle.sampling.proofs.Moves.{draw_on_same}
-
-pub start_behind : (d : ℕ) → 0 < d → 0 ≡ start_row d
-start_behind zero lt = absurd (omega arith)
-start_behind (suc d) lt = refl
-
--- a cell that accepts or rejects is cleared, any other stays
-pub cleared_accept : (accept reject : ℕ) (row : ℕ → ℕ) (d : ℕ) → d ≤ accept → 0 ≡ cleared accept reject row d
-cleared_accept accept reject row d le = sym (ap (λ b. cond b 0 (cond (leb reject d) 0 (row d))) (le-leb d accept le))
-
-pub cleared_reject : (accept reject : ℕ) (row : ℕ → ℕ) (d : ℕ) → accept < d → reject ≤ d → 0 ≡ cleared accept reject row d
-cleared_reject accept reject row d gt le = sym (λ i. cond (lt-leb d accept gt i) 0 (cond (le-leb reject d le i) 0 (row d)))
-
-pub cleared_kept : (accept reject : ℕ) (row : ℕ → ℕ) (d : ℕ) → accept < d → d < reject → row d ≡ cleared accept reject row d
-cleared_kept accept reject row d gt lt = sym (λ i. cond (lt-leb d accept gt i) 0 (cond (lt-leb reject d lt i) 0 (row d)))
 
 cleared_same : (accept reject : ℕ) (row other : ℕ → ℕ) (d : ℕ) → row d ≡ other d → cleared accept reject row d ≡ cleared accept reject other d
 cleared_same accept reject row other d e = ap (λ x. cond (leb d accept) 0 (cond (leb reject d) 0 x)) e
@@ -34,42 +22,72 @@ draws_on_same up m N D k n row other same zero d lt = same d lt
 draws_on_same up m N D k n row other same (suc i) d lt =
     draw_on_same up m N D (k + i) (draws_on up m N D k i row) (draws_on up m N D k i other) d (λ c le. draws_on_same up m N D k n row other same i c (omega arith))
 
--- a row that was laid over, laid over again with what is made of its cells
-pub laid_on : (n : ℕ) (make : (ℕ → ℕ) → ℕ → ℕ) → ((row other : ℕ → ℕ) → ((c : ℕ) → c < n → row c ≡ other c) → (d : ℕ) → d < n → make row d ≡ make other d) → (f : ℕ → ℕ) (old row next : List ℕ) → n ≤ length old → row ≡ overlaid n f old → next ≡ overlaid n (make (cells_of row)) row → next ≡ overlaid n (make f) old
-laid_on n make local f old row next le here there =
+-- what is made of a row's cells, where these are known
+pub made_on : (n : ℕ) (make : (ℕ → ℕ) → ℕ → ℕ) → ((row other : ℕ → ℕ) → ((c : ℕ) → c < n → row c ≡ other c) → (d : ℕ) → d < n → make row d ≡ make other d) → (f : ℕ → ℕ) (row next : List ℕ) → row ≡ row_of n f → next ≡ row_of (length row) (make (cells_of row)) → next ≡ row_of n (make f)
+made_on n make local f row next here there =
     there
-    ∙ ap (λ r. overlaid n (make (cells_of r)) r) here
-    ∙ overlaid_again n (make (cells_of (overlaid n f old))) f old le
-    ∙ overlaid_same n (make (cells_of (overlaid n f old))) (make f) old le (local (cells_of (overlaid n f old)) f (overlaid_below n f old))
+    ∙ ap (λ r. row_of (length r) (make (cells_of r))) here
+    ∙ ap (λ k. row_of k (make (cells_of (row_of n f)))) (length_row n f)
+    ∙ row_same n (make (cells_of (row_of n f))) (make f) (local (cells_of (row_of n f)) f (row_at n f))
 
-pub drawn_on : (up : Bool) (m : DrawMeaning) (N D k count n : ℕ) (f : ℕ → ℕ) (old row next : List ℕ) → n ≤ length old → row ≡ overlaid n f old → next ≡ overlaid n (draws_on up m N D k count (cells_of row)) row → next ≡ overlaid n (draws_on up m N D k count f) old
-drawn_on up m N D k count n f old row next = laid_on n (draws_on up m N D k count) (λ row other same d lt. draws_on_same up m N D k n row other same count d lt) f old row next
+pub drawn_on : (up : Bool) (m : DrawMeaning) (N D k count n : ℕ) (f : ℕ → ℕ) (row next : List ℕ) → row ≡ row_of n f → next ≡ row_of (length row) (draws_on up m N D k count (cells_of row)) → next ≡ row_of n (draws_on up m N D k count f)
+drawn_on up m N D k count n f row next = made_on n (draws_on up m N D k count) (λ row other same d lt. draws_on_same up m N D k n row other same count d lt) f row next
 
-pub drawn_more : (up : Bool) (m : DrawMeaning) (N D k i n : ℕ) (f : ℕ → ℕ) (old row next : List ℕ) → n ≤ length old → row ≡ overlaid n (draws_on up m N D k i f) old → next ≡ overlaid n (draws_on up m N D (k + i) 1 (cells_of row)) row → next ≡ overlaid n (draws_on up m N D k (i + 1) f) old
+pub cleared_on : (accept reject n : ℕ) (f : ℕ → ℕ) (row next : List ℕ) → row ≡ row_of n f → next ≡ row_of (length row) (cleared accept reject (cells_of row)) → next ≡ row_of n (cleared accept reject f)
+cleared_on accept reject n f row next = made_on n (cleared accept reject) (λ row other same d lt. cleared_same accept reject row other d (same d lt)) f row next
+
+-- a draw more behind i draws, the first of them after `from` frames
+pub drawn_more : (up : Bool) (m : DrawMeaning) (N D from k i j n : ℕ) (f : ℕ → ℕ) (row next : List ℕ) → k ≡ from + i → j ≡ suc i → row ≡ row_of n (draws_on up m N D from i f) → next ≡ row_of (length row) (draws_on up m N D k 1 (cells_of row)) → next ≡ row_of n (draws_on up m N D from j f)
 unfolding draws_on
-drawn_more up m N D k i n f old row next le here there =
-    drawn_on up m N D (k + i) 1 n (draws_on up m N D k i f) old row next le here there
-    ∙ ap (λ j. overlaid n (draw_on up m N D j (draws_on up m N D k i f)) old) (add-zero (k + i))
-    ∙ ap (λ j. overlaid n (draws_on up m N D k j f) old) (sym (add-one i))
+drawn_more up m N D from k i j n f row next ek ej here there =
+    drawn_on up m N D k 1 n (draws_on up m N D from i f) row next here there
+    ∙ ap (λ h. row_of n (draw_on up m N D h (draws_on up m N D from i f))) (add-zero k ∙ ek)
+    ∙ ap (λ h. row_of n (draws_on up m N D from h f)) (sym ej)
 
-pub cleared_on : (accept reject n : ℕ) (f : ℕ → ℕ) (old row next : List ℕ) → n ≤ length old → row ≡ overlaid n f old → next ≡ overlaid n (cleared accept reject (cells_of row)) row → next ≡ overlaid n (cleared accept reject f) old
-cleared_on accept reject n f old row next = laid_on n (cleared accept reject) (λ row other same d lt. cleared_same accept reject row other d (same d lt)) f old row next
+pub long_on : (n : ℕ) (f : ℕ → ℕ) (row : List ℕ) → row ≡ row_of n f → length row ≡ n
+long_on n f row e = ap length e ∙ length_row n f
 
-pub long_on : (n : ℕ) (f : ℕ → ℕ) (old row : List ℕ) → n ≤ length old → row ≡ overlaid n f old → n ≤ length row
-long_on n f old row le e = omega (arith, ap length e, length_overlaid n f old le)
+-- no draw leaves a row as it is
+pub none_drawn : (up : Bool) (m : DrawMeaning) (N D k i : ℕ) (row : List ℕ) → i ≡ 0 → row ≡ row_of (length row) (draws_on up m N D k i (cells_of row))
+unfolding draws_on
+none_drawn up m N D k i row e = row_from (length row) (draws_on up m N D k i (cells_of row)) row refl (λ c lt. sym (ap (λ j. draws_on up m N D k j (cells_of row) c) e))
 
--- the first cells of a row that was laid over add up as those laid over it
-pub sum_on : (n k : ℕ) (f : ℕ → ℕ) (old row : List ℕ) → k ≤ n → row ≡ overlaid n f old → sum_below (cells_of row) k ≡ sum_below f k
-sum_on n k f old row le e = sum_same_below (cells_of row) f k (λ c lt. ap (λ r. cells_of r c) e ∙ overlaid_below n f old c (omega arith))
+-- the cells of a row, added up by the library
+pub sum_row : (n : ℕ) (f : ℕ → ℕ) → sum (row_of n f) ≡ sum_below f n
+unfolding row_of
+sum_row zero f = refl
+sum_row (suc n) f =
+    ap (λ k. sum (map f (range_with_len 0 k))) (sym (add-one n)) ∙ ap sum (map-range_with_len_more f 0 n n (omega arith)) ∙ sum_by_push (λ x. x) (map f (range_with_len 0 n)) (f n) ∙ ap (λ s. s + f n) (sum_row n f)
 
-pub roomy_on : (n k : ℕ) (f : ℕ → ℕ) (old row : List ℕ) → n ≤ length old → row ≡ overlaid n f old → sum_below f n ≤ whole + k * n → Roomy n k row
-roomy_on n k f old row le e small = record { long = long_on n f old row le e; small = omega (arith, sum_on n n f old row (omega arith) e) }
+-- the first cells of a row, added up
+pub sum_on : (n j : ℕ) (f : ℕ → ℕ) (row : List ℕ) → j ≤ n → row ≡ row_of n f → sum (take j row) ≡ sum_below f j
+unfolding row_of
+sum_on n j f row le e = ap (λ r. sum (take j r)) e ∙ ap sum (take-map-range_with_len f 0 n j le) ∙ sum_row j f
+
+-- and all of them
+pub sum_all : (n : ℕ) (f : ℕ → ℕ) (row : List ℕ) → row ≡ row_of n f → sum row ≡ sum_below f n
+sum_all n f row e = ap sum e ∙ sum_row n f
+
+pub roomy_on : (n k : ℕ) (f : ℕ → ℕ) (row : List ℕ) → row ≡ row_of n f → 0 < n → n ≤ 256 → sum_below f n ≤ whole + k * n → Roomy k row
+roomy_on n k f row e some few small =
+    let long = long_on n f row e in
+    let same : sum_below (cells_of row) n ≡ sum_below f n = sum_same_below (cells_of row) f n (λ c lt. ap (λ r. cells_of r c) e ∙ row_at n f c lt) in
+    let sums : sum_below (cells_of row) (length row) ≡ sum_below f n = ap (sum_below (cells_of row)) long ∙ same in
+    let times : k * length row ≡ k * n = ap (λ j. k * j) long in
+    record { some_cells = omega arith; few_cells = omega arith; small = omega arith }
 
 module _ (m : DrawMeaning) (law : Lawful m) (N : ℕ) (reel : Reel N) (D : ℕ) where
   -- so many draws more hold little enough
   pub draws_small : (up : Bool) (k count n : ℕ) (row : ℕ → ℕ) → k + count ≤ m.longest N → sum_below row n ≤ whole + k * n → sum_below (draws_on up m N D k count row) n ≤ whole + (k + count) * n
   draws_small up k count n row le small =
       omega (arith, draws_grow m N D (λ j. law.some_follow N j reel) (ways_most m N law reel D) up k row n count le, add-mul k count n)
+
+  -- and leave a row to work in
+  pub draws_roomy : (up : Bool) (k count j : ℕ) (row next : List ℕ) → j ≡ k + count → j ≤ m.longest N → Roomy k row → next ≡ row_of (length row) (draws_on up m N D k count (cells_of row)) → Roomy j next
+  draws_roomy up k count j row next e le roomy there =
+      let n = length row in
+      let few : sum_below (draws_on up m N D k count (cells_of row)) n ≤ whole + j * n = omega (arith, draws_small up k count n (cells_of row) (omega arith) roomy.small, ap (λ i. i * n) e) in
+      roomy_on n j (draws_on up m N D k count (cells_of row)) next there roomy.some_cells roomy.few_cells few
 
 pub start_small : (n : ℕ) → 0 < n → sum_below start_row n ≤ whole + 0 * n
 start_small zero some = absurd (omega arith)

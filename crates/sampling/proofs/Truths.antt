@@ -1,6 +1,7 @@
 -- The sample that the search gives is truly the smallest. Assumes nothing.
-use Rattle.std.proofs.Common.{◌≡◌, ℕ, zero, suc, ◌+◌, ◌*◌, ◌<◌, ◌≤◌, Bool, true, false, cond, ◌||◌, eqb, ltb, List, length, codes, sym, refl, ap, ◌∙◌, subst, add-zero, zero-add, arith}
-use Rattle.std.proofs.lemmas.Bool.{le-ltb, ne_eqb, or_from, cond-false, leb-true, le-leb, both_ways}
+use Rattle.std.proofs.Common.{◌≡◌, ℕ, zero, suc, ◌+◌, ◌*◌, ◌≤◌, Bool, true, false, cond, ◌||◌, ltb, ◌-◌, List, ◌++◌, length, take, drop, codes, sym, refl, ap, ◌∙◌, subst, add-zero, zero-add, arith}
+use Rattle.std.proofs.lemmas.Bool.{ltb-false, or_parts, le-ltb, cond-false, leb-true, le-leb, both_ways}
+use Rattle.std.proofs.lemmas.List.{length-take-le}
 use Rattle.film.specs.Refusals.{Answer, given, refused, refuse}
 use Rattle.draws.specs.Counting.{count_below}
 use Rattle.draws.specs.Draws.{DrawMeaning, Reel, Lawful}
@@ -10,15 +11,16 @@ use Rattle.plans.specs.Limits.{Within, Smallest}
 use Rattle.plans.proofs.Limited.{shows}
 use Rattle.sampling.specs.Chances.{no_reel}
 use Rattle.sampling.specs.Certifies.{is_within, no_tolerance, no_limit}
-use Rattle.sampling.specs.Searches.{last_tried, searched, searched_row, Truly, Smallests, Searchable, Searches}
-use Rattle.sampling.proofs.Promises.{a_reel}
+use Rattle.sampling.specs.Searches.{last_tried, searched, searched_row, Truly, Smallests, Searches}
+use Rattle.sampling.proofs.Overlays.{laid_over}
+use Rattle.sampling.proofs.Promises.{reel_from_lem}
 
 -- a test that fails tells that the units are above the limit
 above : (limit units : ℕ) → is_within limit units ≡ false → Within limit units → ⊥
 above limit units fails within = both_ways (is_within limit units) fails (le-leb (units * 1000000) (limit * whole) within)
 
 refused_given : {n x : ℕ} {l : List ℕ} {v : ℕ} → ◌≡◌ {A = Answer ℕ} (refuse n x l) (given v) → ⊥
-refused_given e = let z : ◌≡◌ {A = ℕ} 0 1 = cc in omega arith
+refused_given e = cc
 
 number_in : Answer ℕ → ℕ
 number_in (given v) = 0
@@ -78,24 +80,18 @@ module _ (m : DrawMeaning) (law : Lawful m) (N : ℕ) (reel : Reel N) (T limit c
             (λ within. none_above (last_tried m N) 0 n (sym value ∙ e) (subst (λ j. Within limit (low_of m N T (single j c))) (sym (zero-add (last_tried m N))) within)) k le keeps;
       }
 
--- past the checks
-past : {A : Type 0} (x y z u v : Bool) (a b c d e rest : A) → x ≡ false → y ≡ false → z ≡ false → u ≡ false → v ≡ false → cond x a (cond y b (cond z c (cond u d (cond v e rest)))) ≡ rest
-past x y z u v a b c d e rest ex ey ez eu ev = cond-false x _ _ ex ∙ cond-false y _ _ ey ∙ cond-false z _ _ ez ∙ cond-false u _ _ eu ∙ cond-false v _ _ ev
-
-pub smallests : (m : DrawMeaning) → Lawful m → (N T limit c : ℕ) (low high low' high' : List ℕ) (answer : Answer ℕ) → 0 < T → T ≤ N → 0 < limit → Searchable N limit c low high → Searches m N T limit c low high low' high' answer → Smallests m N T limit c low high low' high' answer
-smallests m law N T limit c low high low' high' answer some few share ok s =
+pub smallests : (m : DrawMeaning) → Lawful m → (N T limit c : ℕ) (low high low₁ high₁ : List ℕ) (answer : Answer ℕ) → no_reel N ≡ false → no_tolerance N T ≡ false → no_limit limit ≡ false → c ≤ 255 → (ltb (length low) (c + 1) || ltb (length high) (c + 1)) ≡ false
+    → Searches m N T limit (length (take (c + 1) low) - 1) low₁ high₁ answer → Smallests m N T limit c low high (low₁ ++ drop (c + 1) low) (high₁ ++ drop (c + 1) high) answer
+smallests m law N T limit c low high low₁ high₁ answer reel tolerable share accept long search =
+    let low_cells = ltb-false (length low) (c + 1) (or_parts (ltb (length low) (c + 1)) (ltb (length high) (c + 1)) long).0 in
+    let s = subst (λ k. Searches m N T limit k low₁ high₁ answer) (omega (arith, length-take-le (c + 1) low)) search in
     record {
-      value = s.value ∙ sym (beyond (refuse 21 0 (codes "R")) (refuse 22 T (codes "R")) (refuse 26 limit (codes "R")) (refuse 25 c (codes "R")) (refuse 23 (c + 1) (codes "R")) (searched m N T limit c (last_tried m N) 0));
-      low_row = s.low_row ∙ sym (beyond low low low low low (searched_row false m N T limit c low));
-      high_row = s.high_row ∙ sym (beyond high high high high high (searched_row true m N T limit c high));
-      truly = truly m law N ok.reel T limit c answer s.value;
+      value = s.value ∙ sym (past (refuse 21 0 (codes "R")) (refuse 22 T (codes "R")) (refuse 26 limit (codes "R")) (refuse 25 c (codes "R")) (refuse 23 (c + 1) (codes "R")) (searched m N T limit c (last_tried m N) 0));
+      low_row = laid_over (c + 1) _ low low₁ s.low_row ∙ sym (past low low low low low (searched_row false m N T limit c low));
+      high_row = laid_over (c + 1) _ high high₁ s.high_row ∙ sym (past high high high high high (searched_row true m N T limit c high));
+      truly = truly m law N (reel_from_lem N reel) T limit c answer s.value;
     }
   where
-    beyond : {A : Type 0} (p q r t w rest : A) → cond (no_reel N) p (cond (no_tolerance N T) q (cond (no_limit limit) r (cond (ltb 255 c) t (cond (ltb (length low) (c + 1) || ltb (length high) (c + 1)) w rest)))) ≡ rest
-    beyond p q r t w rest =
-        past (no_reel N) (no_tolerance N T) (no_limit limit) (ltb 255 c) (ltb (length low) (c + 1) || ltb (length high) (c + 1)) p q r t w rest
-        (a_reel N ok.reel)
-        (or_from (eqb T 0) (ltb N T) (ne_eqb T 0 (λ e. omega arith)) (le-ltb N T few))
-        (or_from (eqb limit 0) (ltb 999999 limit) (ne_eqb limit 0 (λ e. omega arith)) (le-ltb 999999 limit ok.a_share))
-        (le-ltb 255 c ok.few_cells)
-        (or_from (ltb (length low) (c + 1)) (ltb (length high) (c + 1)) (le-ltb (length low) (c + 1) ok.low_cells) (le-ltb (length high) (c + 1) ok.high_cells))
+    -- past the checks
+    past : {A : Type 0} (p q r t w rest : A) → cond (no_reel N) p (cond (no_tolerance N T) q (cond (no_limit limit) r (cond (ltb 255 c) t (cond (ltb (length low) (c + 1) || ltb (length high) (c + 1)) w rest)))) ≡ rest
+    past p q r t w rest = cond-false _ _ _ reel ∙ cond-false _ _ _ tolerable ∙ cond-false _ _ _ share ∙ cond-false _ _ _ (le-ltb 255 c accept) ∙ cond-false _ _ _ long

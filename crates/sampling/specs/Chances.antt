@@ -2,11 +2,11 @@
 use Rattle.std.specs.Prelude.{◌≡◌, ℕ, suc, ◌+◌, ◌^◌, ◌≤◌, Bool, true, false, cond, ◌||◌, List, length, codes, ◌==◌, nat_lt}
 use Rattle.film.specs.Refusals.{Answer, given, refused, refuse}
 use Rattle.draws.specs.Counting.{count_below}
-use Rattle.draws.specs.Draws.{DrawMeaning, Reel}
-use Rattle.plans.specs.Plans.{PlanNumbers, samples_of, Agrees}
+use Rattle.draws.specs.Draws.{DrawMeaning}
+use Rattle.plans.specs.Plans.{PlanNumbers, samples_of}
 use Rattle.plans.specs.Working.{draws_on, sum_below, worked_from0, low_of, high_of}
 use Rattle.plans.specs.Enclosure.{Encloses}
-use Rattle.sampling.specs.Rows.{cells_of, overlaid, Moved}
+use Rattle.sampling.specs.Rows.{cells_of, row_of, overlaid, Moved}
 use Rattle.sampling.specs.declared.chance.Ends.{Ends}
 
 -- no reel has so many frames
@@ -39,23 +39,15 @@ pub record Chances (m : DrawMeaning) (N D : ℕ) (p : PlanNumbers) (low high low
   pub encloses : (ends : Ends) → answer ≡ given ends → (is_bad : ℕ → Bool) → count_below is_bad N ≡ D → Encloses m N is_bad (samples_of p) ends.lo ends.hi
 
 -- what one sample gives: the rows moved on, and the sums of the cells that accept
-pub record Sampled (m : DrawMeaning) (N D drawn size accept cells : ℕ) (low high low' high' : List ℕ) (sums : Ends) : Type 0 where
-  pub moved : Moved m N D drawn size cells low high low' high'
+pub record Sampled (m : DrawMeaning) (N D drawn size accept : ℕ) (low high low' high' : List ℕ) (sums : Ends) : Type 0 where
+  pub moved : Moved m N D drawn size low high low' high'
   pub low_sum : sums.lo ≡ sum_below (draws_on false m N D drawn size (cells_of low)) (suc accept)
   pub high_sum : sums.hi ≡ sum_below (draws_on true m N D drawn size (cells_of high)) (suc accept)
   pub low_fits : sums.lo ≤ 2 ^ 41
   pub high_fits : sums.hi ≤ 2 ^ 41
 
--- what the working asks for
-pub record Workable (m : DrawMeaning) (N : ℕ) (p : PlanNumbers) (low high : List ℕ) : Type 0 where
-  pub reel : Reel N
-  pub agrees : Agrees p.n1 p.ac1 p.re1 p.n2 p.ac2
-  pub room : p.n1 + p.n2 ≤ m.longest N
-  pub low_cells : p.ac2 + 1 ≤ length low
-  pub high_cells : p.ac2 + 1 ≤ length high
-
--- and what it gives
-pub record Works (m : DrawMeaning) (N D : ℕ) (p : PlanNumbers) (low high low' high' : List ℕ) (ends : Ends) : Type 0 where
+-- what the working gives in rows of as many cells as the plan asks for
+pub record Works (m : DrawMeaning) (N D : ℕ) (p : PlanNumbers) (low' high' : List ℕ) (ends : Ends) : Type 0 where
   pub value : ends ≡ ends_of m N D p
-  pub low_row : low' ≡ overlaid (p.ac2 + 1) (worked_from0 false m N D (samples_of p)).row low
-  pub high_row : high' ≡ overlaid (p.ac2 + 1) (worked_from0 true m N D (samples_of p)).row high
+  pub low_row : low' ≡ row_of (p.ac2 + 1) (worked_from0 false m N D (samples_of p)).row
+  pub high_row : high' ≡ row_of (p.ac2 + 1) (worked_from0 true m N D (samples_of p)).row

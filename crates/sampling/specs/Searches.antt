@@ -1,12 +1,12 @@
 -- What smallest answers, and what it leaves in the rows. Assumes nothing.
-use Rattle.std.specs.Prelude.{◌≡◌, ℕ, zero, suc, ◌+◌, ◌≤◌, min, Bool, true, false, cond, ◌||◌, List, length, codes, nat_lt}
+use Rattle.std.specs.Prelude.{◌≡◌, ℕ, zero, suc, ◌+◌, ◌<◌, ◌≤◌, min, Bool, true, false, cond, ◌||◌, List, length, codes, nat_lt}
 use Rattle.film.specs.Refusals.{Answer, given, refuse}
 use Rattle.draws.specs.Counting.{count_below}
-use Rattle.draws.specs.Draws.{DrawMeaning, Reel}
+use Rattle.draws.specs.Draws.{DrawMeaning}
 use Rattle.plans.specs.Plans.{single}
 use Rattle.plans.specs.Working.{draws_on, start_row, low_of, high_of}
 use Rattle.plans.specs.Limits.{Keeps, Smallest}
-use Rattle.sampling.specs.Rows.{overlaid}
+use Rattle.sampling.specs.Rows.{row_of, overlaid}
 use Rattle.sampling.specs.Chances.{no_reel}
 use Rattle.sampling.specs.Certifies.{is_within, no_tolerance, no_limit}
 
@@ -64,15 +64,14 @@ pub record Smallests (m : DrawMeaning) (N T limit c : ℕ) (low high low' high' 
   pub truly : Truly m N T limit c answer
 
 -- what the search asks for
-pub record Searchable (N limit c : ℕ) (low high : List ℕ) : Type 0 where
-  pub reel : Reel N
+pub record Searchable (limit : ℕ) (low high : List ℕ) : Type 0 where
   pub a_share : limit ≤ 999999
-  pub few_cells : c ≤ 255
-  pub low_cells : c + 1 ≤ length low
-  pub high_cells : c + 1 ≤ length high
+  pub some_cells : 0 < length low
+  pub few_cells : length low ≤ 256
+  pub same_cells : length high ≡ length low
 
--- and what it gives
-pub record Searches (m : DrawMeaning) (N T limit c : ℕ) (low high low' high' : List ℕ) (answer : Answer ℕ) : Type 0 where
+-- and what it gives, in rows of c + 1 cells
+pub record Searches (m : DrawMeaning) (N T limit c : ℕ) (low' high' : List ℕ) (answer : Answer ℕ) : Type 0 where
   pub value : answer ≡ searched m N T limit c (last_tried m N) 0
-  pub low_row : low' ≡ searched_row false m N T limit c low
-  pub high_row : high' ≡ searched_row true m N T limit c high
+  pub low_row : low' ≡ row_of (c + 1) (draws_on false m N T 0 (stops_at m N T limit c (last_tried m N) 0) start_row)
+  pub high_row : high' ≡ row_of (c + 1) (draws_on true m N T 0 (stops_at m N T limit c (last_tried m N) 0) start_row)

@@ -14,6 +14,7 @@ pub struct Certified<R> {
     reel: u32,
     tolerance: u32,
     limit: u32,
+    // two fields and no Ends, since the promises of their readers name them
     lo: u64,
     hi: u64,
 }

@@ -1,16 +1,21 @@
 // The chance that a plan passes a reel, enclosed between two ends.
-ghost use Rattle.std.specs.Prelude.{◌≡◌, ◌<◌};
+ghost use Rattle.std.specs.Prelude.{◌≡◌, ◌+◌, ◌<◌, ◌≤◌, length};
 ghost use Rattle.film.specs.Refusals.{reading};
 ghost use Rattle.plans.specs.ChanceFaults.{chance_refusal};
 ghost use Rattle.plans.specs.Makes.{numbers_of};
-ghost use Rattle.sampling.specs.Chances.{Chances, Sampled, Workable, Works};
+ghost use Rattle.sampling.specs.Chances.{Chances, Sampled, Works};
 ghost use Rattle.sampling.specs.Rows.{Ready};
 
-use crate::draw::{Lot, draw_on};
-use crate::rows::{WHOLE, clear, start, sum};
+use crate::checks::{check_reel, check_rows};
+use crate::draw::Drawing;
+use crate::limit::WHOLE;
+use crate::rows::{clear, start, total};
 use draws::rule::DrawRule;
 use plans::fault::ChanceFault;
 use plans::plan::Plan;
+
+// No plan accepts more than 255 bad frames, so no working needs more cells.
+pub const CELLS: usize = 256;
 
 // The exact chance lies between the two, in units of one part in 2^40.
 #[derive(Clone, Copy, PartialEq, Eq, Debug)]
@@ -31,9 +36,7 @@ pub fn chance<R: DrawRule>(
 ) -> Result<Ends, ChanceFault>
     ensures { Chances (R.DrawRule.meaning rule.now) reel bad (numbers_of plan) low.old high.old low.new high.new (reading chance_refusal result) }
 {
-    if reel == 0 || reel > 1_000_000 {
-        return Err(ChanceFault::ReelSize);
-    }
+    check_reel(reel)?;
     if bad > reel {
         return Err(ChanceFault::BadFrames(bad));
     }
@@ -42,59 +45,57 @@ pub fn chance<R: DrawRule>(
         return Err(ChanceFault::TooManyDraws(draws));
     }
     let cells = plan.ac2() + 1;
-    if low.len() < cells as usize || high.len() < cells as usize {
-        return Err(ChanceFault::ShortRow(cells));
-    }
-    let lot = Lot { frames: reel, bad };
-    Ok(work(rule, lot, plan, low, high))
+    check_rows(cells, low, high)?;
+    let drawing = Drawing {
+        rule,
+        frames: reel,
+        bad,
+    };
+    let cells = cells as usize;
+    Ok(drawing.work(plan, &mut low[..cells], &mut high[..cells]))
 }
 
-// The first sample, and where the plan has one the second.
-fn work<R: DrawRule>(rule: &R, lot: Lot, plan: Plan, low: &mut [u64], high: &mut [u64]) -> Ends
-    requires { Workable (R.DrawRule.meaning rule.now) lot.frames (numbers_of plan) low.old high.old }
-    ensures { Works (R.DrawRule.meaning rule.now) lot.frames lot.bad (numbers_of plan) low.old high.old low.new high.new result }
-{
-    let n1 = plan.n1();
-    let ac1 = plan.ac1();
-    let re1 = plan.re1();
-    let n2 = plan.n2();
-    let ac2 = plan.ac2();
-    let cells = ac2 + 1;
-    start(low, cells);
-    start(high, cells);
-    let first = sample(rule, lot, 0, n1, ac1, cells, low, high);
-    if n2 == 0 {
-        return Ends {
-            lo: first.lo,
-            hi: first.hi.min(WHOLE),
-        };
+impl<'a, R: DrawRule> Drawing<'a, R> {
+    // The first sample, and where the plan has one the second.
+    fn work(&self, plan: Plan, low: &mut [u64], high: &mut [u64]) -> Ends
+        requires room { plan.n1 + plan.n2 ≤ (R.DrawRule.meaning self.now.rule.now).longest self.now.frames }
+        requires low_cells { length low.old ≡ plan.ac2 + 1 }
+        requires high_cells { length high.old ≡ plan.ac2 + 1 }
+        ensures { Works (R.DrawRule.meaning self.now.rule.now) self.now.frames self.now.bad (numbers_of plan) low.new high.new result }
+    {
+        let n1 = plan.n1();
+        let ac1 = plan.ac1();
+        let n2 = plan.n2();
+        start(low);
+        start(high);
+        let first = self.sample(0, n1, ac1, low, high);
+        if n2 == 0 {
+            return Ends {
+                lo: first.lo,
+                hi: first.hi.min(WHOLE),
+            };
+        }
+        let re1 = plan.re1();
+        clear(low, ac1, re1);
+        clear(high, ac1, re1);
+        let second = self.sample(n1, n2, plan.ac2(), low, high);
+        Ends {
+            lo: first.lo + second.lo,
+            hi: (first.hi + second.hi).min(WHOLE),
+        }
     }
-    clear(low, cells, ac1, re1);
-    clear(high, cells, ac1, re1);
-    let second = sample(rule, lot, n1, n2, ac2, cells, low, high);
-    Ends {
-        lo: first.lo + second.lo,
-        hi: (first.hi + second.hi).min(WHOLE),
-    }
-}
 
-// One sample, drawn after `drawn` frames, and what the cells that it accepts add up to.
-fn sample<R: DrawRule>(
-    rule: &R,
-    lot: Lot,
-    drawn: u32,
-    size: u32,
-    accept: u32,
-    cells: u32,
-    low: &mut [u64],
-    high: &mut [u64],
-) -> Ends
-    requires { (Ready (R.DrawRule.meaning rule.now) lot.frames drawn size cells low.old high.old) × (accept < cells) }
-    ensures { Sampled (R.DrawRule.meaning rule.now) lot.frames lot.bad drawn size accept cells low.old high.old low.new high.new result }
-{
-    draw_on(rule, lot, drawn, size, cells, low, high);
-    Ends {
-        lo: sum(low, accept + 1),
-        hi: sum(high, accept + 1),
+    // One sample, drawn after `drawn` frames, and what the cells that it accepts add up to.
+    fn sample(&self, drawn: u32, size: u32, accept: u32, low: &mut [u64], high: &mut [u64]) -> Ends
+        requires ready { Ready (R.DrawRule.meaning self.now.rule.now) self.now.frames drawn size low.old high.old }
+        requires accepted { accept < length low.old }
+        ensures { Sampled (R.DrawRule.meaning self.now.rule.now) self.now.frames self.now.bad drawn size accept low.old high.old low.new high.new result }
+    {
+        self.draw_on(drawn, size, low, high);
+        let accepted = accept as usize + 1;
+        Ends {
+            lo: total(&low[..accepted]),
+            hi: total(&high[..accepted]),
+        }
     }
 }

@@ -3,8 +3,9 @@
 
 pub mod certified;
 pub mod chance;
+mod checks;
 mod draw;
-mod limit;
+pub mod limit;
 mod rows;
 pub mod smallest;
 #[cfg(test)]

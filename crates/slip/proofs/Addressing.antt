@@ -1,5 +1,5 @@
 -- What it tells that frames have their addresses.
-use Rattle.std.proofs.Common.{◌≡◌, ℕ, ◌+◌, ◌<◌, Bool, true, false, cond, ◌&&◌, ltb, List, [], ◌∷◌, ◌++◌, map, length, get_or, drop, codes, sym, refl, ap, ◌∙◌, arith}
+use Rattle.std.proofs.Common.{◌≡◌, ℕ, ◌+◌, ◌<◌, Bool, true, false, cond, ◌&&◌, ltb, List, [], ◌∷◌, ◌++◌, map, length, get_or, drop, codes, refl, ap, ◌∙◌, arith}
 use Rattle.std.specs.List.{flat_map}
 use Rattle.std.proofs.lemmas.List.{at_drop_more, map-append}
 use Rattle.std.proofs.lemmas.Bool.{and_parts, ltb-true}
@@ -10,7 +10,7 @@ use Rattle.draws.specs.Entries.{frame_of, state_of}
 use Rattle.draws.specs.declared.entry.Entry.{Entry}
 use Rattle.slip.specs.Answers.{if_given, all_addressed}
 use Rattle.slip.specs.Fields.{field_bytes, frame_field, frame_if_bad, is_bad, bad_frames}
-use Rattle.slip.proofs.Turns.{joined_append}
+use Rattle.std.proofs.lemmas.Grind.{flat_map-append}
 
 -- an address that was given is the frame's, and the scheme reaches it
 pub record Reached (m : SchemeMeaning) (frame : ℕ) (a : Address) : Type 0 where
@@ -19,7 +19,7 @@ pub record Reached (m : SchemeMeaning) (frame : ℕ) (a : Address) : Type 0 wher
 
 given_by : (test : Bool) (a x : Address) (r : Refusal) → given a ≡ cond test (given x) (refused r) → (a ≡ x) × (test ≡ true)
 given_by true a x r e = (cc, refl)
-given_by false a x r e = let z : ◌≡◌ {A = ℕ} 0 1 = cc in absurd (omega arith)
+given_by false a x r e = absurd (cc)
 
 pub reached : (m : SchemeMeaning) (N frame : ℕ) (a : Address) → given a ≡ addressed m N frame → Reached m frame a
 unfolding addressed
@@ -34,7 +34,7 @@ part_small m lawful frame a r =
 -- the first of several frames, and the others
 both_given : {A : Type 0} (x : Answer A) (y : Answer (Unit {0})) → if_given x y ≡ given tt → (if_given {B = Unit {0}} x (given tt) ≡ given tt) × (y ≡ given tt)
 both_given (given a) y e = (refl, e)
-both_given (refused r) y e = let z : ◌≡◌ {A = ℕ} 0 1 = cc in absurd (omega arith)
+both_given (refused r) y e = absurd (cc)
 
 pub first_addressed : (m : SchemeMeaning) (N frame : ℕ) (frames : List ℕ) → all_addressed m N (frame ∷ frames) ≡ given tt → (all_addressed m N (frame ∷ []) ≡ given tt) × (all_addressed m N frames ≡ given tt)
 first_addressed m N frame frames e = both_given (addressed m N frame) (all_addressed m N frames) e
@@ -47,7 +47,7 @@ pub entry_by_entry : (m : SchemeMeaning) (entries : List Entry) → flat_map fie
 entry_by_entry m [] = refl
 entry_by_entry m (e ∷ es) =
     ap (flat_map field_bytes) (map-append (frame_field m) (frame_if_bad e) (bad_frames es))
-    ∙ joined_append field_bytes (map (frame_field m) (frame_if_bad e)) (map (frame_field m) (bad_frames es))
+    ∙ flat_map-append field_bytes (map (frame_field m) (frame_if_bad e)) (map (frame_field m) (bad_frames es))
     ∙ ap (λ rest. entry_bytes m e ++ rest) (entry_by_entry m es)
 
 -- an entry that is bad, and one that is not
@@ -66,14 +66,3 @@ pub left_if_other : (entries : List Entry) (i : ℕ) (d : Entry) → i < length 
 left_if_other entries i d inside other =
     at_drop_more bad_frames entries i d inside
     ∙ ap (λ (test : Bool). cond test (frame_of (get_or entries i d) ∷ []) [] ++ bad_frames (drop (i + 1) entries)) other
-
--- a turn of the first pass: the frame is refused, or the entries behind it decide
-pub refused_here : (m : SchemeMeaning) (N : ℕ) (entries : List Entry) (i : ℕ) (d : Entry) (r : Refusal) → i < length entries → is_bad (state_of (get_or entries i d)) ≡ true → refused r ≡ addressed m N (frame_of (get_or entries i d)) → all_addressed m N (bad_frames (drop i entries)) ≡ refused r
-refused_here m N entries i d r inside bad e =
-    ap (all_addressed m N) (left_if_bad entries i d inside bad)
-    ∙ ap (λ (x : Answer Address). if_given x (all_addressed m N (bad_frames (drop (i + 1) entries)))) (sym e)
-
-pub given_here : (m : SchemeMeaning) (N : ℕ) (entries : List Entry) (i : ℕ) (d : Entry) (a : Address) → i < length entries → is_bad (state_of (get_or entries i d)) ≡ true → given a ≡ addressed m N (frame_of (get_or entries i d)) → all_addressed m N (bad_frames (drop i entries)) ≡ all_addressed m N (bad_frames (drop (i + 1) entries))
-given_here m N entries i d a inside bad e =
-    ap (all_addressed m N) (left_if_bad entries i d inside bad)
-    ∙ ap (λ (x : Answer Address). if_given x (all_addressed m N (bad_frames (drop (i + 1) entries)))) (sym e)

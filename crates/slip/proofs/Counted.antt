@@ -8,34 +8,13 @@ use Rattle.draws.specs.declared.entry.Entry.{Entry}
 use Rattle.draws.specs.declared.entry.State.{State}
 use Rattle.draws.specs.declared.entry.State.TheVariants.{Empty, Out, Good, Bad}
 use Rattle.inspection.specs.Tables.{Held, size_of, counted, tally, counts_of}
-use Rattle.inspection.specs.declared.report.Counts.{Counts}
 use Rattle.slip.specs.Fields.{field_bytes, frame_field, head_fields, is_bad, bad_frames, bad_frames_of, slip_bytes}
-use Rattle.slip.specs.Rooms.{Few}
-use Rattle.slip.proofs.Turns.{joined_append}
+use Rattle.inspection.proofs.Shapes.{tally_few}
+use Rattle.std.proofs.lemmas.Grind.{flat_map-append}
 
--- no more than there are entries
-pub record Bounded (counts : Counts) (most : ℕ) : Type 0 where
-  pub pulled : counts.pulled ≤ most
-  pub good : counts.good ≤ counts.pulled
-  pub bad : counts.bad ≤ counts.pulled
-
-one_more : (state : State) (behind : Counts) (most : ℕ) → Bounded behind most → Bounded (counted state behind) (suc most)
-one_more Empty behind most b = record { pulled = omega arith; good = omega arith; bad = omega arith }
-one_more Out behind most b = record { pulled = omega (arith, b.pulled); good = omega (arith, b.good); bad = omega (arith, b.bad) }
-one_more Good behind most b = record { pulled = omega (arith, b.pulled); good = omega (arith, b.good); bad = omega (arith, b.bad) }
-one_more Bad behind most b = record { pulled = omega (arith, b.pulled); good = omega (arith, b.good); bad = omega (arith, b.bad) }
-
-tally_bounded : (entries : List Entry) → Bounded (tally entries) (length entries)
-tally_bounded [] = record { pulled = omega arith; good = omega arith; bad = omega arith }
-tally_bounded (e ∷ es) = one_more (state_of e) (tally es) (length es) (tally_bounded es)
-
-pub counts_bounded : (h : Held) (table : List Entry) → Bounded (counts_of h table) (size_of h.terms)
-counts_bounded h table =
-    let b = tally_bounded (take (size_of h.terms) table) in
-    record { pulled = omega (arith, b.pulled, length-take (size_of h.terms) table); good = b.good; bad = b.bad }
-
-pub few : (counts : Counts) (most : ℕ) → Bounded counts most → most ≤ 32768 → Few counts
-few counts most b small = record { pulled = omega (arith, b.pulled); good = omega (arith, b.good, b.pulled); bad = omega (arith, b.bad, b.pulled) }
+-- no more are pulled than both samples take
+pub pulled_few : (h : Held) (table : List Entry) → (counts_of h table).pulled ≤ size_of h.terms
+pulled_few h table = omega (arith, (tally_few (take (size_of h.terms) table)).0, length-take (size_of h.terms) table)
 
 -- the bad frames before the first empty entry are as many as were counted
 one_more_bad : (state : State) (e : Entry) (es : List Entry) → state_of e ≡ state → length (bad_frames (take (tally es).pulled es)) ≡ (tally es).bad → length (bad_frames (take (counted state (tally es)).pulled (e ∷ es))) ≡ (counted state (tally es)).bad
@@ -51,7 +30,7 @@ tally_bad (e ∷ es) = one_more_bad (state_of e) e es refl (tally_bad es)
 pub bad_counted : (h : Held) (table : List Entry) → length (bad_frames_of h table) ≡ (counts_of h table).bad
 bad_counted h table =
     let size = size_of h.terms in
-    let within = (counts_bounded h table).pulled in
+    let within = pulled_few h table in
     ap (λ (entries : List Entry). length (bad_frames entries)) (sym (take-take (counts_of h table).pulled size table within))
     ∙ tally_bad (take size table)
 
@@ -63,7 +42,7 @@ frames_long s (frame ∷ frames) =
 -- the two parts of a slip
 pub slip_parts : (rule : ℕ) (s : SchemeMeaning) (h : Held) (table : List Entry) → slip_bytes rule s h table ≡ flat_map field_bytes (head_fields rule h (counts_of h table)) ++ flat_map field_bytes (map (frame_field s) (bad_frames_of h table))
 unfolding slip_bytes
-slip_parts rule s h table = joined_append field_bytes (head_fields rule h (counts_of h table)) (map (frame_field s) (bad_frames_of h table))
+slip_parts rule s h table = flat_map-append field_bytes (head_fields rule h (counts_of h table)) (map (frame_field s) (bad_frames_of h table))
 
 pub slip_long : (rule : ℕ) (s : SchemeMeaning) (h : Held) (table : List Entry) → length (slip_bytes rule s h table) ≡ 74 + 9 * (counts_of h table).bad
 slip_long rule s h table =

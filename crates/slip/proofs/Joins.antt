@@ -1,65 +1,55 @@
 -- Bytes put one after another are put as one.
-use Rattle.std.proofs.Common.{◌≡◌, ℕ, ◌+◌, ◌-◌, ◌≤◌, List, [], ◌++◌, length, take, drop, sym, refl, ap, ◌∙◌, subst, arith}
+use Rattle.std.proofs.Common.{◌≡◌, ℕ, ◌+◌, ◌-◌, ◌<◌, ◌≤◌, List, [], ◌++◌, length, get_or, take, drop, sym, refl, ap, ◌∙◌, subst, arith}
 use borrow.Rule.Slice.PartMut.{put_mid}
-use Rattle.std.proofs.lemmas.List.{append_assoc, length-append, length-take-le, take-append-drop, take_at, drop_at, drop-drop}
-use Rattle.slip.specs.Bytes.{Put}
+use Rattle.std.specs.List.{flat_map}
+use Rattle.std.proofs.lemmas.List.{append-nil, append_assoc, length-append, length-drop, length-take-le, take_at, take_more, take_all, drop_at, drop-drop, flat_map_more}
+use Rattle.std.proofs.lemmas.List.Folds.{length-flat_map-take}
+use Rattle.slip.specs.Cursors.{HasRoom, Wrote, done, left}
+use Rattle.slip.specs.declared.put.Cursor.{Cursor}
 
 -- a copy into a part of the buffer
-pub put_part : (at : ℕ) (buffer bytes part : List ℕ) → part ≡ bytes → Put buffer at bytes (put_mid at ((at + length bytes) - at) buffer part) (at + length bytes)
-put_part at buffer bytes part same =
+pub copied : (at : ℕ) (buffer bytes part : List ℕ) → part ≡ bytes → at + length bytes ≤ length buffer
+    → (take (at + length bytes) (put_mid at ((at + length bytes) - at) buffer part) ≡ take at buffer ++ bytes)
+    × (drop (at + length bytes) (put_mid at ((at + length bytes) - at) buffer part) ≡ drop (length bytes) (drop at buffer))
+copied at buffer bytes part same fits =
     let width : (at + length bytes) - at ≡ length bytes = omega arith in
+    let rest = drop (length bytes) (drop at buffer) in
+    let whole : put_mid at ((at + length bytes) - at) buffer part ≡ (take at buffer ++ bytes) ++ rest =
+    (λ i. take at buffer ++ (same i ++ drop (width i) (drop at buffer))) ∙ sym (append_assoc (take at buffer) bytes rest) in
+    let front : length (take at buffer ++ bytes) ≡ at + length bytes = omega (arith, length-append (take at buffer) bytes, length-take-le at buffer (omega arith)) in (
+      ap (take (at + length bytes)) whole ∙ take_at (take at buffer ++ bytes) rest (at + length bytes) front,
+      ap (drop (at + length bytes)) whole ∙ drop_at (take at buffer ++ bytes) rest (at + length bytes) front,
+    )
+
+pub wrote_none : (c : Cursor) → Wrote c [] c
+wrote_none c = record { before = sym (append-nil (done c)); behind = refl; same = refl }
+
+pub wrote_more : {a b c : Cursor} {xs ys : List ℕ} → Wrote a xs b → Wrote b ys c → Wrote a (xs ++ ys) c
+wrote_more {a} {b} {c} {xs} {ys} one two =
     record {
-      stands =
-          ap (λ (part : List ℕ). put_mid at ((at + length bytes) - at) buffer part) same
-          ∙ ap (λ n. take at buffer ++ (bytes ++ drop n (drop at buffer))) width
-          ∙ ap (λ (rest : List ℕ). take at buffer ++ (bytes ++ rest)) (drop-drop (length bytes) at buffer);
-      ends = refl;
+      before = two.before ∙ ap (λ l. l ++ ys) one.before ∙ append_assoc (done a) xs ys;
+      behind = two.behind ∙ ap (drop (length ys)) one.behind ∙ drop-drop (length ys) (length xs) (left a) ∙ ap (λ n. drop n (left a)) (sym (length-append xs ys));
+      same = two.same ∙ one.same;
     }
 
--- nothing is put
-pub put_none : (buffer : List ℕ) (at : ℕ) → Put buffer at [] buffer at
-put_none buffer at =
-    let here : at + 0 ≡ at = omega arith in
-    record {
-      stands = sym (take-append-drop at buffer) ∙ ap (λ n. take at buffer ++ drop n buffer) (sym here);
-      ends = sym here;
-    }
+pub wrote_same : {a b : Cursor} {xs ys : List ℕ} → xs ≡ ys → Wrote a xs b → Wrote a ys b
+wrote_same {a} {b} same one = subst (λ bytes. Wrote a bytes b) same one
 
--- up to the end of what was put, and behind it
-front : {buffer bytes left : List ℕ} {at end : ℕ} → Put buffer at bytes left end → at ≤ length buffer → take end left ≡ take at buffer ++ bytes
-front {buffer = buffer} {bytes = bytes} {left = left} {at = at} {end = end} put fits =
-    let width : length (take at buffer ++ bytes) ≡ end = length-append (take at buffer) bytes ∙ ap (λ n. n + length bytes) (length-take-le at buffer fits) ∙ sym put.ends in
-    ap (take end) (put.stands ∙ sym (append_assoc (take at buffer) bytes (drop (at + length bytes) buffer)))
-    ∙ take_at (take at buffer ++ bytes) (drop (at + length bytes) buffer) end width
+-- what is left of the room
+pub room_for : {a b : Cursor} {xs : List ℕ} (n : ℕ) → Wrote a xs b → length xs + n ≤ length (left a) → n ≤ length (left b)
+room_for {a} {b} {xs} n one room = omega (arith, ap length one.behind, length-drop (length xs) (left a))
 
-behind : {buffer bytes left : List ℕ} {at end : ℕ} → Put buffer at bytes left end → at ≤ length buffer → (more : ℕ) → drop (end + more) left ≡ drop (end + more) buffer
-behind {buffer = buffer} {bytes = bytes} {left = left} {at = at} {end = end} put fits more =
-    let width : length (take at buffer ++ bytes) ≡ end = length-append (take at buffer) bytes ∙ ap (λ n. n + length bytes) (length-take-le at buffer fits) ∙ sym put.ends in
-    let rest : drop end left ≡ drop end buffer =
-    ap (drop end) (put.stands ∙ sym (append_assoc (take at buffer) bytes (drop (at + length bytes) buffer)))
-    ∙ drop_at (take at buffer ++ bytes) (drop (at + length bytes) buffer) end width
-    ∙ ap (λ n. drop n buffer) (sym put.ends) in
-    sym (drop-drop more end left) ∙ ap (drop more) rest ∙ drop-drop more end buffer
+-- a loop that puts the bytes of each element, one turn on
+module _ {X : Type 0} (f : X → List ℕ) (xs : List X) (i : ℕ) (d : X) (inside : i < length xs) {a b : Cursor} (so_far : Wrote a (flat_map f (take i xs)) b) where
+  pub turn_room : HasRoom a (flat_map f xs) → HasRoom b (f (get_or xs i d))
+  turn_room room =
+      omega (arith, length-flat_map-take f xs i d inside, ap length so_far.behind, length-drop (length (flat_map f (take i xs))) (left a))
 
-pub put_more : {buffer first between second left : List ℕ} {at middle end : ℕ} → Put buffer at first between middle → Put between middle second left end → at ≤ length buffer → Put buffer at (first ++ second) left end
-put_more {buffer = buffer} {first = first} {between = between} {second = second} {left = left} {at = at} {middle = middle} {end = end} one two fits =
-    let width : at + length (first ++ second) ≡ middle + length second = ap (λ n. at + n) (length-append first second) ∙ omega (arith, one.ends) in
-    record {
-      stands =
-          two.stands
-          ∙ ap (λ (start : List ℕ). start ++ (second ++ drop (middle + length second) between)) (front one fits)
-          ∙ ap (λ (rest : List ℕ). (take at buffer ++ first) ++ (second ++ rest)) (behind one fits (length second))
-          ∙ append_assoc (take at buffer) first (second ++ drop (middle + length second) buffer)
-          ∙ ap (λ (rest : List ℕ). take at buffer ++ rest) (sym (append_assoc first second (drop (middle + length second) buffer)))
-          ∙ ap (λ n. take at buffer ++ ((first ++ second) ++ drop n buffer)) (sym width);
-      ends = two.ends ∙ sym width;
-    }
+  pub turn : {c : Cursor} → Wrote b (f (get_or xs i d)) c → Wrote a (flat_map f (take (i + 1) xs)) c
+  turn {c} more =
+      subst (λ bytes. Wrote a bytes c)
+      (flat_map_more f [] (take i xs) (get_or xs i d) ∙ ap (flat_map f) (sym (take_more xs i d inside)))
+      (wrote_more so_far more)
 
--- the same bytes, buffer and end under other names
-pub put_same : {buffer bytes bytes' left left' : List ℕ} {at end end' : ℕ} → Put buffer at bytes left end → bytes ≡ bytes' → left' ≡ left → end' ≡ end → Put buffer at bytes' left' end'
-put_same {buffer = buffer} {bytes = bytes} {bytes' = bytes'} {left = left} {left' = left'} {at = at} put same same_left same_end =
-    let stands : List ℕ → Type 0 = λ bytes. left' ≡ take at buffer ++ (bytes ++ drop (at + length bytes) buffer) in
-    record {
-      stands = subst stands same (same_left ∙ put.stands);
-      ends = same_end ∙ put.ends ∙ ap (λ (bytes : List ℕ). at + length bytes) same;
-    }
+pub turns_end : {X : Type 0} (f : X → List ℕ) (xs : List X) (i : ℕ) → length xs ≤ i → {a b : Cursor} → Wrote a (flat_map f (take i xs)) b → Wrote a (flat_map f xs) b
+turns_end f xs i past {a} {b} so_far = subst (λ xs. Wrote a (flat_map f xs) b) (take_all i xs past) so_far

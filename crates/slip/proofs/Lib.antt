@@ -1,5 +1,4 @@
 pub mod Joins
-pub mod Turns
-pub mod Addressing
 pub mod Counted
+pub mod Addressing
 pub mod Written

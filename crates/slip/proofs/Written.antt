@@ -1,6 +1,6 @@
 -- What the writer's answers amount to.
-use Rattle.std.proofs.Common.{◌≡◌, ℕ, ◌+◌, ◌-◌, ◌*◌, ◌<◌, ◌≤◌, Bool, true, false, cond, ltb, List, ◌++◌, map, length, take, drop, Ok, codes, sym, refl, ap, ◌∙◌, subst, arith}
-use Rattle.std.proofs.lemmas.List.{length-append}
+use Rattle.std.proofs.Common.{◌≡◌, ℕ, ◌+◌, ◌-◌, ◌*◌, ◌<◌, ◌≤◌, Bool, true, false, cond, ltb, List, [], ◌++◌, map, length, take, drop, Ok, codes, sym, refl, ap, ◌∙◌, arith}
+use Rattle.std.proofs.lemmas.List.{length-append, take-append-drop}
 use Rattle.std.proofs.lemmas.Bool.{ltb-false, lt-ltb, le-ltb}
 use Rattle.film.specs.Refusals.{Refusal, Answer, given, refused, refuse}
 use Rattle.film.specs.Schemes.{SchemeMeaning}
@@ -11,13 +11,12 @@ use Rattle.inspection.specs.Tables.{Held, size_of, counts_of, standing_code}
 use Rattle.inspection.specs.declared.calls.Inspection.{Inspection}
 use Rattle.inspection.specs.declared.report.Counts.{Counts}
 use Rattle.inspection.specs.declared.report.Report.{Report}
-use Rattle.sampling.specs.Certified.{CertifiedNumbers}
 use Rattle.std.specs.List.{flat_map}
 use Rattle.slip.specs.Answers.{passed_on, all_addressed, or_unaddressed, write_answer, Writes}
-use Rattle.slip.specs.Bytes.{Put}
+use Rattle.slip.specs.Cursors.{Wrote, done, left}
 use Rattle.slip.specs.Fields.{bad_frames, bad_frames_of, field_bytes, frame_field, head_fields, slip_bytes}
-use Rattle.slip.specs.Rooms.{Few}
-use Rattle.slip.proofs.Counted.{Bounded, counts_bounded, few as few-counts, slip_long, slip_parts}
+use Rattle.slip.specs.declared.put.Cursor.{Cursor}
+use Rattle.slip.proofs.Counted.{pulled_few, slip_long, slip_parts}
 
 -- what standing's answer tells
 pub record Told (h : Held) (table : List Entry) (report : Reported) : Type 0 where
@@ -26,7 +25,7 @@ pub record Told (h : Held) (table : List Entry) (report : Reported) : Type 0 whe
   pub counts : report.counts ≡ counts_of h table
 
 told_by : (test : Bool) (x y : Reported) (r : Refusal) → given x ≡ cond test (refused r) (given y) → (x ≡ y) × (test ≡ false)
-told_by true x y r e = let z : ◌≡◌ {A = ℕ} 0 1 = cc in absurd (omega arith)
+told_by true x y r e = absurd (cc)
 told_by false x y r e = (cc, refl)
 
 pub told : (h : Held) (table : List Entry) (report : Reported) → given report ≡ standing_answer h table → Told h table report
@@ -40,7 +39,7 @@ told h table report e =
 
 short_by : (test : Bool) (x r : Refusal) (y : Reported) → refused x ≡ cond test (refused r) (given y) → (x ≡ r) × (test ≡ true)
 short_by true x r y e = (cc, refl)
-short_by false x r y e = let z : ◌≡◌ {A = ℕ} 0 1 = cc in absurd (omega arith)
+short_by false x r y e = absurd (cc)
 
 -- the four ends
 pub short_table : (rule : ℕ) (s : SchemeMeaning) (h : Held) (table : List Entry) (buffer : List ℕ) (r : Refusal) → refused r ≡ standing_answer h table → Writes rule s h table buffer (refused (passed_on r)) buffer
@@ -86,17 +85,22 @@ unaddressed rule s h table buffer r long fits e =
       buffer_left = refl;
     }
 
-pub written : (rule : ℕ) (s : SchemeMeaning) (h : Held) (table : List Entry) (buffer left : List ℕ) (end : ℕ) → size_of h.terms ≤ length table → length (slip_bytes rule s h table) ≤ length buffer → given tt ≡ all_addressed s h.terms.N (bad_frames_of h table) → Put buffer 0 (slip_bytes rule s h table) left end → Writes rule s h table buffer (given end) left
-written rule s h table buffer left end long fits all put =
-    let slip = length (slip_bytes rule s h table) in
-    let whole : end ≡ slip = omega (arith, put.ends) in
-    let here : 0 + slip ≡ end = omega arith in
+pub written : (rule : ℕ) (s : SchemeMeaning) (h : Held) (table : List Entry) (buffer : List ℕ) → size_of h.terms ≤ length table → length (slip_bytes rule s h table) ≤ length buffer → given tt ≡ all_addressed s h.terms.N (bad_frames_of h table)
+    → {start end : Cursor} → done start ≡ [] → left start ≡ buffer → Wrote start (slip_bytes rule s h table) end
+    → (count : ℕ) (now : List ℕ) → count ≡ length (done end) → now ≡ end.buffer.now → Writes rule s h table buffer (given count) now
+written rule s h table buffer long fits all {start} {end} before behind put count now counted same =
+    let slip = slip_bytes rule s h table in
+    let front : done end ≡ slip = put.before ∙ ap (λ l. l ++ slip) before in
+    let whole : count ≡ length slip = counted ∙ ap length front in
     record {
       value =
           ap (λ n. given n) whole
-          ∙ ap (λ (x : Answer (Unit {0})). or_unaddressed x (given slip)) all
-          ∙ sym (past_buffer s h table slip (length buffer) long fits);
-      buffer_left = put.stands ∙ ap (λ n. slip_bytes rule s h table ++ drop n buffer) here;
+          ∙ ap (λ (x : Answer (Unit {0})). or_unaddressed x (given (length slip))) all
+          ∙ sym (past_buffer s h table (length slip) (length buffer) long fits);
+      buffer_left =
+          same
+          ∙ sym (take-append-drop end.at end.buffer.now)
+          ∙ (λ i. front i ++ (put.behind ∙ ap (drop (length slip)) behind ∙ ap (λ n. drop n buffer) (sym whole)) i);
     }
 
 -- what the writer knows once standing has answered
@@ -104,7 +108,6 @@ pub record Known {R : Type 0} (i : Inspection R) (table : List Entry) (report : 
   pub long : size_of (held_of i).terms ≤ length table
   pub code : standing_code report.standing ≡ (held_of i).standing
   pub counts : report.counts ≡ counts_of (held_of i) table
-  pub few : Few report.counts
   pub inside : report.counts.pulled ≤ length table
   pub frames : bad_frames (take (report.counts.pulled - 0) table) ≡ bad_frames_of (held_of i) table
   pub needed : (rule : ℕ) (s : SchemeMeaning) → 74 + 9 * report.counts.bad ≡ length (slip_bytes rule s (held_of i) table)
@@ -116,26 +119,14 @@ known i table report e =
     let t = told h table (record { code = standing_code report.standing; counts = report.counts }) e in
     let start : report.counts.pulled - 0 ≡ (counts_of h table).pulled = omega (arith, ap (λ (counts : Counts). counts.pulled) t.counts) in
     let frames_are : bad_frames (take (report.counts.pulled - 0) table) ≡ bad_frames_of h table = ap (λ n. bad_frames (take n table)) start in
-    let bounded = subst (λ (counts : Counts). Bounded counts (size_of h.terms)) (sym t.counts) (counts_bounded h table) in
     record {
       long = t.long;
       code = t.code;
       counts = t.counts;
-      few = few-counts report.counts (size_of h.terms) bounded i.certified.plan.agrees.1;
-      inside = omega (arith, bounded.pulled, t.long);
+      inside = omega (arith, pulled_few h table, ap (λ (counts : Counts). counts.pulled) t.counts, t.long);
       frames = frames_are;
       needed = λ rule s. ap (λ (counts : Counts). 74 + 9 * counts.bad) t.counts ∙ sym (slip_long rule s h table);
       room = λ rule s.
           ap (λ (frames : List ℕ). 74 + length (flat_map field_bytes (map (frame_field s) frames))) frames_are
           ∙ sym (ap length (slip_parts rule s h table) ∙ length-append (flat_map field_bytes (head_fields rule h (counts_of h table))) (flat_map field_bytes (map (frame_field s) (bad_frames_of h table))));
     }
-
--- the head of a slip under other names for its numbers
-pub head_same : {rule rule' number standing : ℕ} {terms : CertifiedNumbers} {h : Held} {counts counts' : Counts} → rule ≡ rule' → number ≡ h.number → terms ≡ h.terms → standing ≡ h.standing → counts ≡ counts' → flat_map field_bytes (head_fields rule (record { number = number; terms = terms; standing = standing }) counts) ≡ flat_map field_bytes (head_fields rule' h counts')
-head_same {rule = rule} {rule' = rule'} {number = number} {standing = standing} {terms = terms} {h = h} {counts = counts} r n t s k =
-    let bytes : ℕ → ℕ → CertifiedNumbers → ℕ → Counts → List ℕ = λ rule number terms standing counts. flat_map field_bytes (head_fields rule (record { number = number; terms = terms; standing = standing }) counts) in
-    ap (λ rule. bytes rule number terms standing counts) r
-    ∙ ap (λ number. bytes rule' number terms standing counts) n
-    ∙ ap (λ (terms : CertifiedNumbers). bytes rule' h.number terms standing counts) t
-    ∙ ap (λ standing. bytes rule' h.number h.terms standing counts) s
-    ∙ ap (λ (counts : Counts). bytes rule' h.number h.terms h.standing counts) k

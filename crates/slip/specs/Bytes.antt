@@ -1,5 +1,5 @@
--- Numbers as bytes, the highest first, and bytes put into a buffer. Assumes nothing.
-use Rattle.std.specs.Prelude.{◌≡◌, ℕ, zero, suc, ◌+◌, ◌/◌, ◌%◌, ◌^◌, List, [], ◌∷◌, ◌++◌, length, take, drop}
+-- Numbers as bytes, the highest first. Assumes nothing.
+use Rattle.std.specs.Prelude.{ℕ, zero, suc, ◌/◌, ◌%◌, ◌^◌, List, [], ◌∷◌}
 use Rattle.std.specs.List.{flat_map}
 use Rattle.slip.specs.declared.put.Number.{Number}
 use Rattle.slip.specs.declared.put.Number.TheVariants.{One, Two, Four, Eight}
@@ -17,8 +17,3 @@ number_bytes (Eight n) = be 8 n
 
 abbrev pub bytes_of : List Number → List ℕ
 bytes_of numbers = flat_map number_bytes numbers
-
--- the bytes stand in the buffer from a place on, up to an end, and the others are as they were
-pub record Put (buffer : List ℕ) (at : ℕ) (bytes : List ℕ) (left : List ℕ) (end : ℕ) : Type 0 where
-  pub stands : left ≡ take at buffer ++ (bytes ++ drop (at + length bytes) buffer)
-  pub ends : end ≡ at + length bytes

@@ -11,34 +11,48 @@ use Rattle.sampling.specs.Certified.{CertifiedNumbers}
 use Rattle.inspection.specs.Tables.{Held, counts_of}
 use Rattle.inspection.specs.declared.report.Counts.{Counts}
 use Rattle.slip.specs.Bytes.{be}
+use Rattle.slip.specs.declared.put.Tag.{Tag}
+use Rattle.slip.specs.declared.put.Tag.TheVariants.{Reel, Frames, Rule, Plan, Guarantee, Chance, Standing, Counts as CountsTag, BadFrame}
+
+-- the tags as numbers
+abbrev pub tag_code : Tag → ℕ
+tag_code Reel = 1
+tag_code Frames = 2
+tag_code Rule = 3
+tag_code Plan = 4
+tag_code Guarantee = 5
+tag_code Chance = 6
+tag_code Standing = 7
+tag_code CountsTag = 8
+tag_code BadFrame = 9
 
 pub record Field : Type 0 where
-  pub tag : ℕ
+  pub tag : Tag
   pub value : List ℕ
 
 -- the tag in one byte, the value's length in two, and the value
 abbrev pub field_bytes : Field → List ℕ
-field_bytes f = be 1 f.tag ++ (be 2 (length f.value) ++ f.value)
+field_bytes f = be 1 (tag_code f.tag) ++ (be 2 (length f.value) ++ f.value)
 
 -- a field of numbers, each in as many bytes
-abbrev pub field : (tag width : ℕ) → List ℕ → Field
+abbrev pub field : Tag → (width : ℕ) → List ℕ → Field
 field tag width numbers = record { tag = tag; value = flat_map (be width) numbers }
 
 -- the reel's number, its frames, and the draw rule's code
 abbrev pub reel_fields : (number N rule : ℕ) → List Field
-reel_fields number N rule = field 1 4 (number ∷ []) ∷ field 2 4 (N ∷ []) ∷ field 3 1 (rule ∷ []) ∷ []
+reel_fields number N rule = field Reel 4 (number ∷ []) ∷ field Frames 4 (N ∷ []) ∷ field Rule 1 (rule ∷ []) ∷ []
 
 -- the plan's five numbers, the tolerance and the limit, and the two ends of the enclosure
 abbrev pub plan_fields : CertifiedNumbers → List Field
 plan_fields c =
-    field 4 2 (c.plan.n1 ∷ c.plan.ac1 ∷ c.plan.re1 ∷ c.plan.n2 ∷ c.plan.ac2 ∷ [])
-    ∷ field 5 4 (c.T ∷ c.limit ∷ [])
-    ∷ field 6 8 (c.lo ∷ c.hi ∷ [])
+    field Plan 2 (c.plan.n1 ∷ c.plan.ac1 ∷ c.plan.re1 ∷ c.plan.n2 ∷ c.plan.ac2 ∷ [])
+    ∷ field Guarantee 4 (c.T ∷ c.limit ∷ [])
+    ∷ field Chance 8 (c.lo ∷ c.hi ∷ [])
     ∷ []
 
 -- the standing's code and the counts
 abbrev pub outcome_fields : (standing : ℕ) → Counts → List Field
-outcome_fields standing counts = field 7 1 (standing ∷ []) ∷ field 8 2 (counts.pulled ∷ counts.good ∷ counts.bad ∷ []) ∷ []
+outcome_fields standing counts = field Standing 1 (standing ∷ []) ∷ field CountsTag 2 (counts.pulled ∷ counts.good ∷ counts.bad ∷ []) ∷ []
 
 -- what every slip begins with
 abbrev pub head_fields : (rule : ℕ) → Held → Counts → List Field
@@ -46,7 +60,7 @@ head_fields rule h counts = reel_fields h.number h.terms.N rule ++ (plan_fields 
 
 -- a frame by its address in the scheme: the scheme's code, the whole unit and the part
 abbrev pub address_field : (code : ℕ) → Address → Field
-address_field code a = record { tag = 9; value = be 1 code ++ (be 4 a.whole ++ be 1 a.part) }
+address_field code a = record { tag = BadFrame; value = be 1 code ++ (be 4 a.whole ++ be 1 a.part) }
 
 abbrev pub frame_field : SchemeMeaning → (frame : ℕ) → Field
 frame_field s frame = address_field s.code (address_at s frame)

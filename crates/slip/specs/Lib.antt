@@ -1,4 +1,5 @@
 pub mod Bytes
+pub mod Cursors
 pub mod Fields
 pub mod Answers
 pub mod Faults

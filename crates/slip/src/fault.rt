@@ -1,10 +1,11 @@
 // Why a slip is not written.
 ghost use Rattle.std.specs.Prelude.{◌≡◌, Some};
 ghost use Rattle.film.specs.Refusals.{refusal_text};
-ghost use Rattle.slip.specs.Faults.{slip_number, slip_place, slip_refusal};
+ghost use Rattle.slip.specs.Faults.{slip_refusal};
 ghost use Rattle.slip.specs.declared.fault.SlipFault.TheVariants.{Inspection as InspectionCase, Address as AddressCase};
 
 use film::address::AddressFault;
+use film::fault::{Fault, Printed};
 use inspection::fault::InspectionFault;
 use std::fmt;
 
@@ -18,10 +19,10 @@ pub enum SlipFault {
     Address(AddressFault),
 }
 
-impl SlipFault {
-    pub fn number(&self) -> u32
-        ensures { result ≡ slip_number self.now }
-    {
+impl Fault for SlipFault {
+    ghost refusal = { slip_refusal };
+
+    fn number(&self) -> u32 {
         match self {
             SlipFault::Inspection(fault) => fault.number(),
             SlipFault::ShortBuffer(_) => 51,
@@ -29,13 +30,20 @@ impl SlipFault {
         }
     }
 
-    pub fn place(&self) -> u32
-        ensures { result ≡ slip_place self.now }
-    {
+    fn place(&self) -> u32 {
         match self {
             SlipFault::Inspection(fault) => fault.place(),
             SlipFault::ShortBuffer(needed) => *needed,
             SlipFault::Address(fault) => fault.place(),
+        }
+    }
+
+    fn layers(&self) -> &'static str {
+        match self {
+            SlipFault::Inspection(InspectionFault::Unlocated(_)) => "AIS",
+            SlipFault::Inspection(_) => "IS",
+            SlipFault::ShortBuffer(_) => "S",
+            SlipFault::Address(_) => "AS",
         }
     }
 }
@@ -60,16 +68,6 @@ impl fmt::Display for SlipFault {
     ghost output = { λ fault. Some (refusal_text (slip_refusal fault)) };
 
     fn fmt<W: fmt::Write>(&self, f: &mut fmt::Formatter<W>) -> fmt::Result {
-        let number = self.number();
-        let place = self.place();
-        match self {
-            SlipFault::Inspection(InspectionFault::Unlocated(_)) => write!(
-                f,
-                "no {number} {place} AIS"
-            ),
-            SlipFault::Inspection(_) => write!(f, "no {number} {place} IS"),
-            SlipFault::ShortBuffer(_) => write!(f, "no {number} {place} S"),
-            SlipFault::Address(_) => write!(f, "no {number} {place} AS"),
-        }
+        write!(f, "{}", Printed(self))
     }
 }

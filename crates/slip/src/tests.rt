@@ -1,7 +1,7 @@
 // Slips byte for byte, and each refusal once.
 use crate::fault::SlipFault;
 use crate::writer::write;
-use draws::entry::{Entry, State};
+use draws::entry::{BLANK, Entry, State};
 use draws::rule::WithoutReplacement;
 use film::address::{Address, AddressFault};
 use film::schemes::{Feet35, Timecode24};
@@ -13,11 +13,6 @@ use plans::plan::make::make;
 use sampling::certified::Certified;
 use sampling::certified::certify::certify;
 use std::test::Fail;
-
-const NONE: Entry = Entry {
-    frame: 0,
-    state: State::Empty,
-};
 
 // The slips of a reel with two frames, one of them viewed; the bytes behind the slip stay.
 const ONE_GOOD: &[u8; 80] = b"\
@@ -63,7 +58,7 @@ fn view(
 
 #[test]
 fn slip_of_a_good_frame(rt: HostRuntime) -> Result<(), Fail> {
-    let mut table = [NONE];
+    let mut table = [BLANK];
     let mut inspection = open(7, certified()?, &mut table)?;
     view(&mut inspection, Mark::Good, &mut table)?;
     let mut buffer = [0xee; 80];
@@ -74,7 +69,7 @@ fn slip_of_a_good_frame(rt: HostRuntime) -> Result<(), Fail> {
 
 #[test]
 fn slip_of_a_bad_frame(rt: HostRuntime) -> Result<(), Fail> {
-    let mut table = [NONE];
+    let mut table = [BLANK];
     let mut inspection = open(7, certified()?, &mut table)?;
     view(&mut inspection, Mark::Bad, &mut table)?;
     let mut buffer = [0xee; 83];
@@ -89,7 +84,7 @@ fn slip_of_a_bad_frame(rt: HostRuntime) -> Result<(), Fail> {
 #[test]
 fn refusals(rt: HostRuntime) -> Result<(), Fail> {
     let heap = rt.alloc();
-    let mut table = [NONE];
+    let mut table = [BLANK];
     let inspection = open(7, certified()?, &mut table)?;
     let mut buffer = [0xee; 83];
     let short = write(&inspection, &[], &Timecode24, &mut buffer);

@@ -5,8 +5,8 @@ ghost use Rattle.slip.specs.Answers.{Writes};
 ghost use Rattle.slip.specs.Faults.{slip_refusal};
 
 use crate::fault::SlipFault;
-use crate::fields::put_head;
-use crate::frames::{check_addresses, put_bad_frames};
+use crate::frames::check_addresses;
+use crate::put::Cursor;
 use draws::entry::Entry;
 use draws::rule::DrawRule;
 use film::scheme::Scheme;
@@ -33,10 +33,10 @@ pub fn write<R: DrawRule, S: Scheme>(
         return Err(SlipFault::ShortBuffer(needed));
     }
     let certified = inspection.certified();
-    let reel = certified.reel();
     let pulled = &table[0..report.counts.pulled as usize];
-    check_addresses(scheme, reel, pulled)?;
-    let rule = certified.rule().code();
-    let end = put_head(buffer, inspection.number(), rule, certified, report);
-    Ok(put_bad_frames(buffer, end, scheme, reel, pulled))
+    check_addresses(scheme, certified.reel(), pulled)?;
+    let mut cursor = Cursor::new(buffer);
+    cursor.head(inspection, report);
+    cursor.bad_frames(scheme, certified.reel(), pulled);
+    Ok(cursor.count())
 }

@@ -19,7 +19,7 @@ use Rattle.plans.proofs.Limited.{passing_single}
 use Rattle.sampling.specs.Chances.{Chances}
 use Rattle.sampling.specs.Searches.{Truly}
 use Rattle.sampling.specs.declared.chance.Ends.{Ends}
-use Rattle.sampling.proofs.Promises.{passed, Accepted, accepted}
+use Rattle.sampling.proofs.Promises.{no_refusal, passed, Accepted, accepted}
 use Rattle.tables.specs.Verdicts.{judged, Judges, Rests, Chosen, same_number, joined}
 use Rattle.tables.specs.Rows.{EnclosedSingle, SampleSays, SampleWorked, Greatest, AcceptSays, AcceptWorked}
 use Rattle.tables.specs.declared.judging.Verdict.{Verdict}
@@ -31,7 +31,7 @@ use Rattle.tables.specs.declared.accepts.WorkedAccept.{WorkedAccept}
 
 given_where : {A : Type 0} (b : Bool) (r : Refusal) (x v : A) → given v ≡ cond b (given x) (refused r) → (b ≡ true) × (v ≡ x)
 given_where true r x v e = (refl, cc)
-given_where false r x v e = let z : ◌≡◌ {A = ℕ} 0 1 = cc in absurd (omega arith)
+given_where false r x v e = absurd (no_refusal e)
 
 -- a plan made of one size and one accept number has the one sample
 pub one_sample : (n c reject : ℕ) (p : PlanNumbers) → given p ≡ made n c reject 0 c → samples_of p ≡ single n c

@@ -2,7 +2,7 @@
 ghost use Rattle.std.specs.Prelude.{IfOk};
 ghost use Rattle.tables.specs.Rows.{AcceptWorked};
 
-use crate::judging::{Verdict, greatest, judge};
+use crate::judging::{LIMIT, Verdict, greatest, judge};
 use crate::places::{Decimal, Places, Range, Units};
 use crate::published::AcceptRow;
 use crate::refusal::Refusal;
@@ -15,8 +15,6 @@ const LOT: u32 = 1_000_000;
 
 // A lot with so many bad items may pass at most 5% of the time.
 const TOO_MANY: u32 = 1000;
-
-const LIMIT: u32 = 50_000;
 
 const PLACES: Places = Places::Four;
 

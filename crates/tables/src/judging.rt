@@ -1,19 +1,23 @@
 // How enclosures are held against what was published.
 ghost use Rattle.std.specs.Prelude.{◌≡◌};
 ghost use Rattle.plans.specs.Working.{whole};
-ghost use Rattle.sampling.specs.Certifies.{is_within};
 ghost use Rattle.tables.specs.Figures.{rounded};
 ghost use Rattle.tables.specs.Verdicts.{Chosen, Judges, Rests, joined, one_if_agree, same_number};
 
 use sampling::chance::Ends;
+use sampling::limit::{WHOLE, within};
 use std::fmt;
 
-#[derive(Clone, Copy, PartialEq, Eq, Debug)]
+// Both tables let a bad lot pass at most 5% of the time, in millionths.
+pub const LIMIT: u32 = 50_000;
+
+// In the order in which one outweighs another.
+#[derive(Clone, Copy, PartialEq, Eq, PartialOrd, Ord, Debug)]
 pub enum Verdict {
     Agree,
-    Differs,
     // the enclosure has shares of either kind
     Undecided,
+    Differs,
 }
 
 impl Verdict {
@@ -21,24 +25,14 @@ impl Verdict {
     pub fn agreeing(self) -> u32
         ensures { result ≡ one_if_agree self }
     {
-        match self {
-            Verdict::Agree => 1,
-            Verdict::Differs | Verdict::Undecided => 0,
-        }
+        u32::from(self == Verdict::Agree)
     }
 
     // What is said of two things asked of one row.
     pub fn and(self, second: Verdict) -> Verdict
         ensures { result ≡ joined self second }
     {
-        match self {
-            Verdict::Agree => second,
-            Verdict::Differs => Verdict::Differs,
-            Verdict::Undecided => match second {
-                Verdict::Differs => Verdict::Differs,
-                _ => Verdict::Undecided,
-            },
-        }
+        self.max(second)
     }
 }
 
@@ -51,9 +45,6 @@ impl fmt::Display for Verdict {
         }
     }
 }
-
-// A certainty, in units.
-const WHOLE: u64 = 1_099_511_627_776;
 
 // Units in parts of 1 / scale, rounded half up. In 128 bits, where no product wraps.
 pub fn figure(scale: u32, units: u64) -> u128
@@ -97,13 +88,6 @@ pub fn rest(ends: Ends) -> Ends
         lo: WHOLE.saturating_sub(ends.hi),
         hi: WHOLE.saturating_sub(ends.lo),
     }
-}
-
-// Whether units are within a limit in millionths.
-fn within(limit: u32, units: u64) -> bool
-    ensures { result ≡ is_within limit units }
-{
-    units as u128 * 1_000_000 <= limit as u128 * WHOLE as u128
 }
 
 // Whether an accept number is the greatest that keeps the limit, by the enclosures at it and at the next.

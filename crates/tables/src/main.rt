@@ -61,6 +61,7 @@ impl Tally {
     }
 }
 
+// Not one function with the next: their rows are of two types, and a trait for the verdict alone would be longer.
 fn print_samples(rt: &HostRuntime, tally: &mut Tally) -> anyhow::Result<()> {
     println!(rt;
         "The smallest samples that accept no bad item, for 95% confidence, drawn without replacement from 1066 items. Chances are in units of one part in 2^40."

@@ -2,20 +2,17 @@
 ghost use Rattle.std.specs.Prelude.{IfOk};
 ghost use Rattle.tables.specs.Rows.{SampleWorked};
 
-use crate::judging::{Verdict, judge, rest, same};
+use crate::judging::{LIMIT, Verdict, judge, rest, same};
 use crate::places::{Decimal, Places, Range, Units};
 use crate::published::SampleRow;
 use crate::refusal::Refusal;
-use crate::single::{CELLS, enclose};
+use crate::single::enclose;
 use draws::rule::WithoutReplacement;
-use sampling::chance::Ends;
+use sampling::chance::{CELLS, Ends};
 use sampling::smallest::smallest;
 use std::fmt;
 
 const POPULATION: u32 = 1066;
-
-// With that many bad items a sample may pass at most 5% of the time.
-const LIMIT: u32 = 50_000;
 
 const PLACES: Places = Places::Nine;
 

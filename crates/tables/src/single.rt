@@ -5,10 +5,7 @@ ghost use Rattle.tables.specs.Rows.{EnclosedSingle};
 use crate::refusal::Refusal;
 use draws::rule::DrawRule;
 use plans::plan::make::make;
-use sampling::chance::{Ends, chance};
-
-// No plan accepts more than 255 bad items, so no working needs more cells.
-pub const CELLS: usize = 256;
+use sampling::chance::{CELLS, Ends, chance};
 
 // The enclosure of the chance that a sample of `size` items has at most `accept` bad ones.
 pub fn enclose<R: DrawRule>(

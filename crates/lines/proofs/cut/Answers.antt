@@ -1,20 +1,20 @@
-use Rattle.std.proofs.Common.{take, drop, Some, sym, ap, ◌∙◌, add-one, arith}
-use native.Mathlib.Nat.{sub-zero}
+use Rattle.std.proofs.Common.{◌≡◌, ◌==◌, position, rules, tests}
+use Rattle.std.proofs.lemmas.Iterator.{YieldsList-from_slice}
+use Rattle.std.proofs.lemmas.Iterator.Search.{position_from_yields_List}
 use Rattle.std.proofs.lemmas.List.{take_rest}
-use Rattle.lines.proofs.Cuts.{cut_at, cut_none}
 use Rattle.lines.proofs.cut.Goals as goal
+use Rattle.lines.proofs.cut.Goals.{After-position}
 
-pub returns-then-b-mark : goal.returns-then-b-mark
-returns-then-b-mark c =
-    let t = c.args.text.now in
-    let i = c.loop-i.i in
-    let cuts = cut_at c.args.mark t i (omega arith) c.loop-i.invariant c.if-b-mark.true in
-    record {
-      front = ap (λ n. take n t) (sub-zero i) ∙ sym cuts.0;
-      rest = ap Some (take_rest t _ ∙ ap (λ n. drop n t) (add-one i)) ∙ sym cuts.1;
+place : (c : After-position) → c.position.result ≡ position (λ b. b == c.args.mark) c.args.text.now
+place c = position_from_yields_List (λ b. b == c.args.mark) _ _ _ c.position.ensures.ran (YieldsList-from_slice c.args.text.now cc) (λ x b q k. search (rules, tests))
+
+pub returns-in-Some : goal.returns-in-Some
+returns-in-Some c =
+    let e = place (goal.at.returns-in-Some c).After-position in record {
+      front = rw (← e, c.in-Some.is);
+      rest = rw (← e, c.in-Some.is, take_rest);
     }
 
-pub returns : goal.returns
-returns c =
-    let cuts = cut_none c.args.mark c.args.text.now (λ k l. c.loop-i.invariant k (omega (arith, l))) in
-    record { front = sym cuts.0; rest = sym cuts.1 }
+pub returns-in-None : goal.returns-in-None
+returns-in-None c =
+    let e = place (goal.at.returns-in-None c).After-position in record { front = rw (← e, c.in-None.is); rest = rw (← e, c.in-None.is) }

@@ -1,37 +1,34 @@
-use Rattle.std.proofs.Common.{◌≡◌, ◌+◌, ◌&&◌, drop, Some, sym, ap, ◌∙◌, arith, false-eqb}
-use Rattle.std.proofs.lemmas.List.{at_drop_all}
-use Rattle.std.specs.Str.{all_ascii_digits}
-use Rattle.lines.specs.Text.{read_on}
-use Rattle.lines.proofs.Digits.{no_digit, too_large, a_number, read_more, digits_more, larger}
+use Rattle.std.proofs.Common.{◌≡◌, true, MatchResult, rules, tests, ◌∙◌, sym, subst, ℕ, List, Bor, Result, Ok, Err}
+use Rattle.std.proofs.lemmas.Iterator.{YieldsList-from_slice}
+use Rattle.std.proofs.lemmas.Iterator.Search.{all_from_yields_List}
+use Rattle.std.specs.Char.{is_ascii_digit}
+use Rattle.std.proofs.lemmas.Option.{MatchOption-at_none, MatchOption-at_some}
+use Rattle.std.specs.Option.{MatchOption}
+use Rattle.std.specs.Result.{result_ok}
+use Rattle.std.specs.Str.{all_ascii_digits, IsUtf8}
+use Rattle.std.specs.Str.Parse.{ParsesUnsigned}
+use Rattle.lines.proofs.Digits.{no_digit, parsed, digits_all, digits_Utf8}
 use Rattle.lines.proofs.number.Goals as goal
+use Rattle.lines.proofs.number.Goals.{After-all}
 
-pub returns-then-not-is_ascii_digit : goal.returns-then-not-is_ascii_digit
-returns-then-not-is_ascii_digit c =
-    let w = c.args.word.now in
-    let i = c.loop-c.c-index in
-    no_digit w (sym c.loop-c.invariant.2 ∙ digits_more w i c.loop-c-test.true ∙ ap (λ b. b && all_ascii_digits (drop (i + 1) w)) (sym c.if-not-is_ascii_digit.ensures.value))
+digits : (c : After-all) → c.all.result ≡ all_ascii_digits c.args.word.now
+digits c = all_from_yields_List is_ascii_digit _ _ _ c.all.ensures.ran (YieldsList-from_slice c.args.word.now cc) (λ x b q k. search (rules, tests)) ∙ digits_all c.args.word.now
 
-pub loop-c-preserved : goal.loop-c-preserved
-loop-c-preserved c =
-    let w = c.args.word.now in
-    let i = c.loop-c.c-index in
-    let l = c.loop-c-test.true in
-    let digit = c.if-not-is_ascii_digit.ensures.cases in (
-      larger _ _ _ c.loop-c.invariant.0 (omega arith),
-      sym (read_more w i l _) ∙ c.loop-c.invariant.1,
-      ap (λ b. b && all_ascii_digits (drop (i + 1) w)) c.if-not-is_ascii_digit.ensures.value ∙ sym (digits_more w i l) ∙ c.loop-c.invariant.2,
-    )
+pub returns-then-not-all : goal.returns-then-not-all
+returns-then-not-all c = let e = digits (goal.at.returns-then-not-all c).After-all in no_digit c.args.word.now (sym e ∙ c.if-not-all.true)
 
-pub returns-then-value : goal.returns-then-value
-returns-then-value c =
-    let w = c.args.word.now in
-    let whole = sym (at_drop_all (read_on c.loop-c.value) w _ c.loop-c-test.false) ∙ c.loop-c.invariant.1 in
-    too_large w (omega arith)
+-- what `from_utf8` gives of digits
+text : {E : Type 0} (word : List ℕ) (r : Result (Bor (List ℕ)) E) (Q : E → Type 0) → MatchResult r (λ s. (s.now ≡ word) × IsUtf8 word) (λ e. ¬ (IsUtf8 word) × Q e) → all_ascii_digits word ≡ true → MatchOption (result_ok r) ⊥ (λ s. s.now ≡ word)
+text word (Ok s) Q h digits = h.0
+text word (Err e) Q h digits = absurd (h.0 (digits_Utf8 word digits))
+
+pub returns-in_err-ok : goal.returns-in_err-ok
+returns-in_err-ok c =
+    let e = digits (goal.at.returns-in_err-ok c).After-all in
+    absurd (MatchOption-at_none ⊥ _ (sym c.ok.ensures.value ∙ c.in_err-ok.was) (text c.args.word.now c.from_utf8.result _ c.from_utf8.ensures.cases (sym e ∙ c.if-not-all.false)))
 
 pub returns : goal.returns
 returns c =
-    let w = c.args.word.now in
-    let whole : c.loop-c.value ≡ read_on 0 w = sym (at_drop_all (read_on c.loop-c.value) w _ c.loop-c-test.false) ∙ c.loop-c.invariant.1 in
-    let digits = sym c.loop-c.invariant.2 ∙ at_drop_all all_ascii_digits w _ c.loop-c-test.false in
-    let some = false-eqb _ 0 c.if-is_empty.ensures in
-    ap Some whole ∙ a_number w (omega arith) (omega arith) digits (omega arith)
+    let e = digits (goal.at.returns c).After-all in
+    let t = MatchOption-at_some ⊥ _ _ (sym c.ok.ensures.value ∙ c.in_ok-ok.was) (text c.args.word.now c.from_utf8.result _ c.from_utf8.ensures.cases (sym e ∙ c.if-not-all.false)) in
+    c.ok-2.ensures.value ∙ parsed c.args.word.now c.parse.result (subst (λ w. ParsesUnsigned 32 10 w c.parse.result) t c.parse.ensures.value.0) c.if-word-gt10.false (sym e ∙ c.if-not-all.false)

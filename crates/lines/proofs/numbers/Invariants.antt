@@ -4,6 +4,6 @@ use Rattle.lines.specs.Text.{numbers_of}
 use Rattle.lines.proofs.Row.{after}
 use Rattle.lines.proofs.numbers.Given as goal
 
-abbrev pub invariant-loop-i : goal.invariant-loop-i
-invariant-loop-i g l =
-    (length l.found ≡ l.i-end) × (numbers_of l.i-end (Some l.text) ≡ after (take l.i l.found) (numbers_of (l.i-end - l.i) (option_map (λ x. x.now) l.rest)))
+abbrev pub invariant-loop-slot : goal.invariant-loop-slot
+invariant-loop-slot g l =
+    (length l.slot-items ≡ g.row.K) × (numbers_of g.row.K (Some l.text) ≡ after (take l.slot-index l.slot-items) (numbers_of (g.row.K - l.slot-index) (option_map (λ x. x.now) l.rest)))

@@ -5,6 +5,7 @@ ghost use Rattle.sampling.specs.Certifies.{Certifies, certified_reading};
 
 use crate::certified::Certified;
 use crate::chance::chance;
+use crate::checks::{no_limit, no_tolerance};
 use crate::limit::within;
 use draws::rule::DrawRule;
 use plans::fault::PlanFault;
@@ -23,10 +24,10 @@ pub fn certify<R: DrawRule + Drop>(
     ensures promise { Certifies (R.DrawRule.meaning rule) reel tolerance limit (numbers_of plan) low.old high.old low.new high.new (certified_reading result) }
     ensures kept { IfOk result (λ c. c.rule ≡ rule) }
 {
-    if tolerance == 0 || tolerance > reel {
+    if no_tolerance(reel, tolerance) {
         return Err(PlanFault::Tolerance(tolerance));
     }
-    if limit == 0 || limit > 999_999 {
+    if no_limit(limit) {
         return Err(PlanFault::Limit(limit));
     }
     let ends = chance(&rule, reel, tolerance, plan, low, high)?;

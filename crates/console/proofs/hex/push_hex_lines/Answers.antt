@@ -1,19 +1,24 @@
-use Rattle.std.proofs.Common.{◌++◌, length, string_bytes, sym, ap, ◌∙◌, append-nil}
-use Rattle.std.proofs.lemmas.List.{at_drop_more, at_drop_all}
-use Rattle.console.specs.Hex.{hex_from}
-use Rattle.console.proofs.Joins.{two_more}
+use Rattle.std.proofs.Common.{◌≡◌, ◌++◌, ◌∷◌, [], length, min, string_bytes, sym, ap, ◌∙◌, append_assoc, subst, rules, ◌<◌}
+use Rattle.std.specs.List.{flat_map}
+use Rattle.std.specs.Slice.Iter.{chunks_rest}
+use Rattle.console.specs.Hex.{hex_of, hex_lines}
+use Rattle.console.proofs.Lines.{one_line}
 use Rattle.console.proofs.hex.push_hex_lines.Goals as goal
 
-pub loop-i-preserved : goal.loop-i-preserved
-loop-i-preserved c =
-    let bytes = c.args.bytes.now in
-    two_more (string_bytes c.loop-i.out) _ _ _ _ _ c.in_ok-push_hex.ensures c.in_ok-push_ending.ensures ∙
-    ap (λ l. string_bytes c.loop-i.out ++ l) (sym (at_drop_more (hex_from c.loop-i.i (length bytes)) bytes c.loop-i.i 0 c.loop-i-test.true)) ∙
-    c.loop-i.invariant
-
-pub returns : goal.returns
-returns c =
-    let bytes = c.args.bytes.now in
-    sym (append-nil _) ∙
-    ap (λ l. string_bytes c.loop-i.out ++ l) (sym (at_drop_all (hex_from c.loop-i.i (length bytes)) bytes c.loop-i.i c.loop-i-test.false)) ∙
-    c.loop-i.invariant
+pub loop-line-preserved : goal.loop-line-preserved
+loop-line-preserved c =
+    let out = string_bytes c.loop-line.out in
+    let line = c.in-Some.line.now in
+    let behind = chunks_rest c.next.new.self in
+    let steps = c.in-Some.ensures.steps in
+    let here = steps.1.0 in
+    let long : length line ≡ min 32 (length (line ++ behind)) = steps.1.1 ∙ (λ k. min (c.loop-line.invariant.0 k) (length (here k))) in
+    let some : 0 < length (line ++ behind) = subst (λ n. 0 < n) (ap length here) steps.1.2 in
+    let ended : string_bytes c.push.new.self ≡ string_bytes c.push_hex.new.out ++ 10 ∷ [] = search rules in (
+      steps.0 ∙ c.loop-line.invariant.0,
+      ap (λ o. o ++ hex_lines behind) (ended ∙ ap (λ o. o ++ 10 ∷ []) c.in_ok-push_hex.ensures) ∙
+          append_assoc (out ++ flat_map hex_of line) (10 ∷ []) (hex_lines behind) ∙
+          append_assoc out (flat_map hex_of line) (10 ∷ hex_lines behind) ∙
+          ap (λ l. out ++ l) (sym (one_line line behind long some) ∙ ap hex_lines (sym here)) ∙
+          c.loop-line.invariant.1,
+    )

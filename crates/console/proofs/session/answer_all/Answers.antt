@@ -1,13 +1,14 @@
-use Rattle.std.proofs.Common.{arith}
-use Rattle.console.proofs.Turns.{one_turn, all_turns}
+use Rattle.std.proofs.Common.{◌++◌, length, string_bytes, ap, ◌∙◌, arith}
+use Rattle.console.specs.Readings.{reply_of}
+use Rattle.console.specs.Replies.{reply_text}
+use Rattle.console.proofs.Turns.{one_turn}
 use Rattle.console.proofs.session.answer_all.Goals as goal
 
-pub loop-i-preserved : goal.loop-i-preserved
-loop-i-preserved c =
-    let room = c.loop-i.invariant.0 in (
-      record { low_cells = omega arith; high_cells = omega arith; bytes = omega arith },
-      one_turn c.args.lines.now _ _ _ c.loop-i.i c.loop-i.invariant.1 _ _ _ c.loop-i-test.true c.answer-next.ensures c.in_ok-push_reply.ensures,
+pub loop-line-preserved : goal.loop-line-preserved
+loop-line-preserved c =
+    let out = string_bytes c.loop-line.out in
+    let steps = c.in-Some.ensures.steps in
+    let more = c.in_ok-push_reply.ensures ∙ ap (λ b. out ++ reply_text (reply_of c.answer-reply.result b)) c.as_slice.ensures.value in (
+      omega (arith, ap length steps.1),
+      one_turn _ _ _ out _ c.loop-line.invariant.1 _ _ _ _ _ _ steps.0.0 steps.0.1 steps.1 c.answer-reply.ensures more,
     )
-
-pub returns : goal.returns
-returns c = all_turns c.args.lines.now _ _ _ c.loop-i.i c.loop-i.invariant.1 c.loop-i-test.false

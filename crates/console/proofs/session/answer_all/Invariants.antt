@@ -1,9 +1,14 @@
-use Rattle.std.proofs.Common.{◌≡◌, suc, ◌++◌, map, drop, string_bytes}
-use Rattle.console.specs.Phases.{Prepared, phase_of}
+use Rattle.std.proofs.Common.{◌≡◌, ◌+◌, ◌≤◌, ◌++◌, map, length, string_bytes}
+use Rattle.std.specs.Iterator.Adapters.{zip_first, zip_second}
+use Rattle.std.specs.Slice.Iter.{iter_rest}
+use Rattle.console.specs.Phases.{session_of}
 use Rattle.console.specs.Replies.{output_from}
-use Rattle.console.specs.Sessions.{begun, session}
+use Rattle.console.specs.Sessions.{fresh}
 use Rattle.console.proofs.session.answer_all.Given as goal
 
-abbrev pub invariant-loop-i : goal.invariant-loop-i
-invariant-loop-i l =
-    Prepared l.low l.high l.buffer × (string_bytes l.out ++ output_from (suc l.i) (session (phase_of l.phase) l.table) (map (λ x. x.now) (drop l.i l.lines)) ≡ output_from 1 (session begun l.initial.table) (map (λ x. x.now) l.lines))
+-- the line's number and the lines behind it
+abbrev pub invariant-loop-line : goal.invariant-loop-line
+invariant-loop-line l =
+    let line = (zip_first l.line-iterator).start in
+    let rest = iter_rest (zip_second l.line-iterator) in
+    (line + length rest ≤ 65537) × (string_bytes l.out ++ output_from line (session_of l.session) (map (λ x. x.now) rest) ≡ output_from 1 fresh (map (λ x. x.now) l.lines))

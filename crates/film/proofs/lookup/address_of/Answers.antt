@@ -1,10 +1,7 @@
-use Rattle.std.proofs.Common.{◌<◌, ◌∙◌, subst}
+use Rattle.std.proofs.Common.{◌∙◌, subst}
 use Rattle.film.specs.Schemes.{InUnitsOf}
 use Rattle.film.proofs.Single.{unit_addressed, addresses}
 use Rattle.film.proofs.lookup.address_of.Goals as goal
-
-pub address_in_units-requires : goal.address_in_units-requires
-address_in_units-requires g c = subst (λ n. 0 < n) (c.frames_to_unit.ensures 0) ((g.met.S.Scheme.lawful c.args.scheme.now).some 0)
 
 pub returns : goal.returns
 returns g c =

@@ -1,10 +1,7 @@
-use Rattle.std.proofs.Common.{◌≤◌, ◌∙◌, subst}
+use Rattle.std.proofs.Common.{◌∙◌, subst}
 use Rattle.film.specs.Schemes.{InUnitsOf}
 use Rattle.film.proofs.Single.{unit_located, locates}
 use Rattle.film.proofs.lookup.locate.Goals as goal
-
-pub frame_in_units-requires : goal.frame_in_units-requires
-frame_in_units-requires g c = subst (λ n. n ≤ 256) (c.frames_to_unit.ensures 0) ((g.met.S.Scheme.lawful c.args.scheme.now).few 0)
 
 pub returns : goal.returns
 returns g c =

@@ -1,11 +1,12 @@
 -- What is not refused is worked out.
-use Rattle.std.proofs.Common.{arith}
+use Rattle.std.proofs.Common.{◌+◌, ◌||◌, ltb, length, ap, arith}
 use Rattle.plans.specs.Makes.{numbers_of}
-use Rattle.sampling.proofs.Promises.{chances}
+use Rattle.sampling.specs.Chances.{no_reel}
+use Rattle.sampling.proofs.Promises.{chances, let_through}
 use Rattle.sampling.proofs.chance.chance.Goals as goal
 
 pub returns : goal.returns
 returns g c =
-    chances _ (g.met.R.DrawRule.lawful c.args.rule.now) _ _ (numbers_of c.args.plan) _ _ _ _ _ (omega arith)
-    (record { reel = record { some = omega arith; few = omega arith }; agrees = c.args.plan.agrees; room = omega arith; low_cells = omega arith; high_cells = omega arith })
-    c.work.ensures
+    let cells = c.ac2-cells.result + 1 in
+    chances _ (g.met.R.DrawRule.lawful c.args.rule.now) _ _ (numbers_of c.args.plan) _ _ _ _ _ _ (let_through (no_reel c.args.reel) _ _ c.in_ok-check_reel.ensures) (omega arith) c.args.plan.agrees (omega arith) (ap (λ n. n + 1) c.ac2-cells.ensures)
+    (let_through (ltb (length c.args.low.now) cells || ltb (length c.args.high.now) cells) _ _ c.in_ok-check_rows.ensures) c.work.ensures
