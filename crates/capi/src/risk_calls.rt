@@ -34,7 +34,7 @@ pub extern "C" fn kifolanto_chance(
     ensures { ByRule rule (λ m. Crossed ends_crossing (PlannedChance m reel bad (made n1 ac1 re1 n2 ac2) low.old high.old low.new high.new) result) (Kept low.old high.old low.new high.new (result ≡ ends_crossing (refused (unknown_code rule)))) }
 {
     let plan = make(n1, ac1, re1, n2, ac2);
-    // each rule by its own type: one that is named is asked which it is at every cell, and takes a third longer by rule 2
+    // each rule by its own type, so that no draw asks for its name
     match RuleName::try_from(rule) {
         Ok(RuleName::Without) => enclose(&WithoutReplacement, reel, bad, plan, low, high).into(),
         Ok(RuleName::With) => enclose(&WithReplacement, reel, bad, plan, low, high).into(),

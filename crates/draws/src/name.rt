@@ -67,6 +67,12 @@ impl DrawRule for RuleName {
             RuleName::With => WithReplacement.counts(reel, bad, drawn, bad_drawn),
         }
     }
+
+    fn named(&self) -> Option<RuleName>
+        ensures { result ≡ Some self.now }
+    {
+        Some(*self)
+    }
 }
 
 impl fmt::Display for UnknownRule {

@@ -1,14 +1,16 @@
 // Draw rules: which frames may follow those drawn, and how many of them are good and bad.
 ghost use Rattle.std.specs.List.{list_any};
-ghost use Rattle.std.specs.Prelude.{◌==◌, ◌≡◌, ℕ, take};
+ghost use Rattle.std.specs.Prelude.{◌==◌, ◌≡◌, ℕ, IfSome, take};
 ghost use Rattle.draws.specs.Closed.{Binomial, Hypergeometric};
 ghost use Rattle.draws.specs.Draws.{DrawMeaning, Enumerates, Lawful, Reel};
 ghost use Rattle.draws.specs.Entries.{frames_of};
+ghost use Rattle.draws.specs.Names.{rule_of};
 ghost use Rattle.draws.specs.Rules.{holds, with_replacement, without_replacement};
 ghost use Rattle.draws.specs.Without;
 ghost use Rattle.draws.specs.With;
 
 use crate::entry::Entry;
+use crate::name::RuleName;
 
 // How many good and bad frames may follow.
 #[derive(Clone, Copy, PartialEq, Eq, Debug)]
@@ -43,9 +45,18 @@ pub trait DrawRule {
         ensures good { result.good ≡ (meaning self.now).good reel bad drawn bad_drawn }
         ensures bad { result.bad ≡ (meaning self.now).bad reel bad drawn bad_drawn };
 
+    // Its name, where it is a rule by name: whoever asks often can then ask the rule that is named.
+    fn named(&self) -> Option<RuleName>
+        ensures { IfSome result (λ name. meaning self.now ≡ rule_of name) }
+    {
+        None
+    }
+
     ghost lawful: { (r : Self) → Lawful (meaning r) };
 }
 
+// Not inlined: within a larger function the loop gets half as many instructions again.
+#[inline(never)]
 fn has_frame(entries: &[Entry], frame: u32) -> bool
     ensures { result ≡ list_any (λ e. frame == e.frame) entries.now }
 {

@@ -36,12 +36,6 @@ pub record InUnitsOf (F : ℕ) (m : SchemeMeaning) : Type 0 where
   pub parts : (whole : ℕ) → m.parts whole ≡ F
   pub order : (i : ℕ) → i < m.reach → address_at m i ≡ at (i / F) (i % F)
 
--- a scheme's constants state what its meaning does
-pub record States (c F r : ℕ) (m : SchemeMeaning) : Type 0 where
-  pub code : c ≡ m.code
-  pub frames : (whole : ℕ) → m.parts whole ≡ F
-  pub reach : r ≡ m.reach
-
 -- the addresses that fill unit after unit with F frames, up to a reach
 unfoldable pub filled : (F reach : ℕ) → List Address
 filled F reach = map (λ i. at (i / F) (i % F)) (range_with_len 0 reach)

@@ -1,16 +1,9 @@
 // What a way of writing addresses is.
 ghost use Rattle.std.specs.Prelude.{◌≡◌, ℕ};
-ghost use Rattle.film.specs.Schemes.{SchemeMeaning, Lawful, InUnitsOf, States};
+ghost use Rattle.film.specs.Schemes.{SchemeMeaning, Lawful, InUnitsOf};
 
 pub trait Scheme {
     ghost meaning: { Self → SchemeMeaning };
-
-    // The constants as clauses name them; each impl gives both, and the check holds them equal.
-    ghost CODE: { ℕ };
-
-    ghost FRAMES: { ℕ };
-
-    ghost REACH: { ℕ };
 
     // The byte that names the scheme on a slip.
     const CODE: u8;
@@ -22,25 +15,13 @@ pub trait Scheme {
     const REACH: u32;
 
     fn slip_code(&self) -> u8
-        ensures { result ≡ (meaning self.now).code }
-    {
-        Self::CODE
-    }
+        ensures { result ≡ (meaning self.now).code };
 
     fn frames_to_unit(&self) -> u32
-        ensures { (whole : ℕ) → (meaning self.now).parts whole ≡ result }
-    {
-        Self::FRAMES
-    }
+        ensures { (whole : ℕ) → (meaning self.now).parts whole ≡ result };
 
     fn frames_reached(&self) -> u32
-        ensures { result ≡ (meaning self.now).reach }
-    {
-        Self::REACH
-    }
-
-    // the constants say what the meaning does
-    ghost stated: { (s : Self) → States CODE FRAMES REACH (meaning s) };
+        ensures { result ≡ (meaning self.now).reach };
 
     ghost lawful: { (s : Self) → Lawful (meaning s) };
 

@@ -3,7 +3,7 @@
 
 use console::session::{enough_bytes, run};
 use std::env;
-use std::io::Read;
+use std::io::{Read, Write};
 
 const USAGE: &str = "\
 inspect: a reel inspected by a sampling plan, from its number to its slip
@@ -28,6 +28,7 @@ fn main(rt: HostRuntime) -> anyhow::Result<()> {
         .take(enough_bytes() as u64)
         .read_to_end(&mut input)?;
     let output = run(heap, input.as_slice())?;
-    rt.print(output.as_str())?;
+    // in one write, where `print` makes one for each 1,024 bytes
+    rt.stdout().write_all(output.as_bytes())?;
     Ok(())
 }

@@ -27,7 +27,8 @@ pub fn count(entries: &[Entry]) -> Counts
     Counts { pulled, good, bad }
 }
 
-// How many entries are bad, if all are marked.
+// How many entries are bad, if all are marked. Not inlined: its loops then stay short.
+#[inline(never)]
 pub fn completed(entries: &[Entry]) -> Option<u32>
     requires { length entries.now ≤ 32768 }
     ensures { result ≡ bad_if_marked entries.now }

@@ -50,13 +50,17 @@ fn without_end(line: &[u8]) -> &[u8]
 pub fn number(word: &[u8]) -> Option<u32>
     ensures { result ≡ number_of word.now }
 {
-    if word.len() > 10 {
+    if word.is_empty() || word.len() > 10 {
         return None;
     }
     if !word.iter().all(u8::is_ascii_digit) {
         return None;
     }
-    str::from_utf8(word).ok()?.parse().ok()
+    // ten digits fit 64 bits
+    let value = word
+        .iter()
+        .fold(0, |value, digit| value * 10 + u64::from(digit - b'0'));
+    u32::try_from(value).ok()
 }
 
 // A text that is just K numbers, one blank between.

@@ -16,7 +16,7 @@ module _ {A : Type 0} (P : A → Type 0) where
   count_add p q r share [] h = refl
   count_add p q r share (x ∷ xs) h = omega (arith, count_add p q r share xs h.1, share x h.0)
 
-all_any : {A : Type 0} (xs : List A) → AllByRecursion (λ x. Unit {0}) xs
+pub all_any : {A : Type 0} (xs : List A) → AllByRecursion (λ x. Unit {0}) xs
 all_any [] = tt
 all_any (x ∷ xs) = (tt, all_any xs)
 

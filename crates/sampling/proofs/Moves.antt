@@ -20,7 +20,7 @@ module _ (up : Bool) (m : DrawMeaning) (N D k : ℕ) (old : List ℕ) where
   partly_none n long = record { same_length = refl; done = λ c ge lt. absurd (omega arith); left = λ c lt. refl }
 
   -- one cell more
-  partly_more : (i : ℕ) (row : List ℕ) (v : ℕ) → i < length old → v ≡ draw_on up m N D k (cells_of old) i → Partly up m N D k (suc i) old row → Partly up m N D k i old (set row i v)
+  pub partly_more : (i : ℕ) (row : List ℕ) (v : ℕ) → i < length old → v ≡ draw_on up m N D k (cells_of old) i → Partly up m N D k (suc i) old row → Partly up m N D k i old (set row i v)
   partly_more i row v lt value p =
       record {
         same_length = length-set row i v ∙ p.same_length;

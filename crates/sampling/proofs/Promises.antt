@@ -24,7 +24,7 @@ let_through true fault x e = cc
 let_through false fault x e = refl
 
 -- where nothing is refused, the ends are given
-enclosed_given : (m : DrawMeaning) (N D : ℕ) (p : PlanNumbers) (low high : ℕ) → no_reel N ≡ false → D ≤ N → p.n1 + p.n2 ≤ m.longest N → (ltb low (p.ac2 + 1) || ltb high (p.ac2 + 1)) ≡ false → enclosed m N D p low high ≡ given (ends_of m N D p)
+pub enclosed_given : (m : DrawMeaning) (N D : ℕ) (p : PlanNumbers) (low high : ℕ) → no_reel N ≡ false → D ≤ N → p.n1 + p.n2 ≤ m.longest N → (ltb low (p.ac2 + 1) || ltb high (p.ac2 + 1)) ≡ false → enclosed m N D p low high ≡ given (ends_of m N D p)
 enclosed_given m N D p low high reel few room long =
     cond-false (no_reel N) _ _ reel
     ∙ cond-false (ltb N D) _ _ (le-ltb N D few)

@@ -46,29 +46,25 @@ pub fn chance<R: DrawRule>(
     }
     let cells = plan.ac2() + 1;
     check_rows(cells, low, high)?;
-    let drawing = Drawing {
-        rule,
-        frames: reel,
-        bad,
-    };
+    let drawing = Drawing { frames: reel, bad };
     let cells = cells as usize;
-    Ok(drawing.work(plan, &mut low[..cells], &mut high[..cells]))
+    Ok(drawing.work(rule, plan, &mut low[..cells], &mut high[..cells]))
 }
 
-impl<'a, R: DrawRule> Drawing<'a, R> {
+impl Drawing {
     // The first sample, and where the plan has one the second.
-    fn work(&self, plan: Plan, low: &mut [u64], high: &mut [u64]) -> Ends
-        requires room { plan.n1 + plan.n2 ≤ (R.DrawRule.meaning self.now.rule.now).longest self.now.frames }
+    fn work<R: DrawRule>(self, rule: &R, plan: Plan, low: &mut [u64], high: &mut [u64]) -> Ends
+        requires room { plan.n1 + plan.n2 ≤ (R.DrawRule.meaning rule.now).longest self.frames }
         requires low_cells { length low.old ≡ plan.ac2 + 1 }
         requires high_cells { length high.old ≡ plan.ac2 + 1 }
-        ensures { Works (R.DrawRule.meaning self.now.rule.now) self.now.frames self.now.bad (numbers_of plan) low.new high.new result }
+        ensures { Works (R.DrawRule.meaning rule.now) self.frames self.bad (numbers_of plan) low.new high.new result }
     {
         let n1 = plan.n1();
         let ac1 = plan.ac1();
         let n2 = plan.n2();
         start(low);
         start(high);
-        let first = self.sample(0, n1, ac1, low, high);
+        let first = self.sample(rule, 0, n1, ac1, low, high);
         if n2 == 0 {
             return Ends {
                 lo: first.lo,
@@ -78,7 +74,7 @@ impl<'a, R: DrawRule> Drawing<'a, R> {
         let re1 = plan.re1();
         clear(low, ac1, re1);
         clear(high, ac1, re1);
-        let second = self.sample(n1, n2, plan.ac2(), low, high);
+        let second = self.sample(rule, n1, n2, plan.ac2(), low, high);
         Ends {
             lo: first.lo + second.lo,
             hi: (first.hi + second.hi).min(WHOLE),
@@ -86,12 +82,20 @@ impl<'a, R: DrawRule> Drawing<'a, R> {
     }
 
     // One sample, drawn after `drawn` frames, and what the cells that it accepts add up to.
-    fn sample(&self, drawn: u32, size: u32, accept: u32, low: &mut [u64], high: &mut [u64]) -> Ends
-        requires ready { Ready (R.DrawRule.meaning self.now.rule.now) self.now.frames drawn size low.old high.old }
+    fn sample<R: DrawRule>(
+        self,
+        rule: &R,
+        drawn: u32,
+        size: u32,
+        accept: u32,
+        low: &mut [u64],
+        high: &mut [u64],
+    ) -> Ends
+        requires ready { Ready (R.DrawRule.meaning rule.now) self.frames drawn size low.old high.old }
         requires accepted { accept < length low.old }
-        ensures { Sampled (R.DrawRule.meaning self.now.rule.now) self.now.frames self.now.bad drawn size accept low.old high.old low.new high.new result }
+        ensures { Sampled (R.DrawRule.meaning rule.now) self.frames self.bad drawn size accept low.old high.old low.new high.new result }
     {
-        self.draw_on(drawn, size, low, high);
+        self.draw_on(rule, drawn, size, low, high);
         let accepted = accept as usize + 1;
         Ends {
             lo: total(&low[..accepted]),

@@ -37,36 +37,41 @@ pub fn smallest<R: DrawRule>(
     let cells = accept + 1;
     check_rows(cells, low, high)?;
     let drawing = Drawing {
-        rule,
         frames: reel,
         bad: tolerance,
     };
     let cells = cells as usize;
-    drawing.search(limit, &mut low[..cells], &mut high[..cells])
+    drawing.search(rule, limit, &mut low[..cells], &mut high[..cells])
 }
 
-impl<'a, R: DrawRule> Drawing<'a, R> {
+impl Drawing {
     // Tries one size after the other; the rows are carried on from each to the next.
-    fn search(&self, limit: u32, low: &mut [u64], high: &mut [u64]) -> Result<u32, ChanceFault>
+    fn search<R: DrawRule>(
+        self,
+        rule: &R,
+        limit: u32,
+        low: &mut [u64],
+        high: &mut [u64],
+    ) -> Result<u32, ChanceFault>
         requires { Searchable limit low.old high.old }
-        ensures { Searches (R.DrawRule.meaning self.now.rule.now) self.now.frames self.now.bad limit (length low.old - 1) low.new high.new (reading chance_refusal result) }
+        ensures { Searches (R.DrawRule.meaning rule.now) self.frames self.bad limit (length low.old - 1) low.new high.new (reading chance_refusal result) }
     {
         start(low);
         start(high);
-        let last = self.rule.longest(self.frames).min(32_768);
-        // whether the size before may have been large enough; with nothing drawn a PASS is certain
-        let mut maybe = false;
+        let last = rule.longest(self.frames).min(32_768);
+        // the low end at the size before, by which that may have been large enough; with nothing drawn a PASS is certain
+        let mut before = WHOLE;
         for drawn in 0..last {
-            self.draw(drawn, low, high);
+            self.draw(rule, drawn, low, high);
             if within(limit, total(high).min(WHOLE)) {
-                if maybe {
+                if within(limit, before) {
                     return Err(ChanceFault::Undecided(drawn));
                 }
                 return Ok(drawn + 1);
             }
-            maybe = within(limit, total(low));
+            before = total(low);
         }
-        if maybe {
+        if within(limit, before) {
             return Err(ChanceFault::Undecided(last));
         }
         Err(ChanceFault::NoSample(last))

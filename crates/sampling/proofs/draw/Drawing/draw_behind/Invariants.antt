@@ -5,7 +5,7 @@ use Rattle.sampling.proofs.draw.Drawing.draw_behind.Given as goal
 
 abbrev pub invariant-loop-d : goal.invariant-loop-d
 invariant-loop-d g l =
-    let m = g.R.DrawRule.meaning l.self.rule.now in
+    let m = g.R.DrawRule.meaning l.rule in
     record {
       some : 0 < l.d;
       low_part : Partly false m l.self.frames l.self.bad l.drawn l.d l.initial.low l.low;

@@ -8,13 +8,13 @@ loop-k-init g c = record { low_row = none_drawn false _ _ _ _ _ _ (omega arith);
 
 pub draw-requires : goal.draw-requires
 draw-requires g c =
-    let law = g.met.R.DrawRule.lawful c.args.self.now.rule.now in
+    let law = g.met.R.DrawRule.lawful c.args.rule.now in
     record {
       draws = omega arith;
       few_draws = omega arith;
       same_cells = omega arith;
-      low_row = draws_roomy _ law _ c.args.self.now.reel c.args.self.now.bad false c.args.drawn (c.loop-k.k - c.args.drawn) c.loop-k.k _ _ (omega arith) (omega arith) c.requires.low_row c.loop-k.invariant.low_row;
-      high_row = draws_roomy _ law _ c.args.self.now.reel c.args.self.now.bad true c.args.drawn (c.loop-k.k - c.args.drawn) c.loop-k.k _ _ (omega arith) (omega arith) c.requires.high_row c.loop-k.invariant.high_row;
+      low_row = draws_roomy _ law _ c.args.self.reel c.args.self.bad false c.args.drawn (c.loop-k.k - c.args.drawn) c.loop-k.k _ _ (omega arith) (omega arith) c.requires.low_row c.loop-k.invariant.low_row;
+      high_row = draws_roomy _ law _ c.args.self.reel c.args.self.bad true c.args.drawn (c.loop-k.k - c.args.drawn) c.loop-k.k _ _ (omega arith) (omega arith) c.requires.high_row c.loop-k.invariant.high_row;
     }
 
 pub loop-k-preserved : goal.loop-k-preserved

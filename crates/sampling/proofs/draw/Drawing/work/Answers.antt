@@ -25,14 +25,14 @@ returns-then-n2-eq0 g c =
 
 pub sample-second-requires-clause-ready : goal.sample-second-requires-clause-ready
 sample-second-requires-clause-ready g c =
-    let law = g.met.R.DrawRule.lawful c.args.self.now.rule.now in
+    let law = g.met.R.DrawRule.lawful c.args.rule.now in
     let few = c.args.plan.agrees.2 in
     record {
       draws = omega arith;
       few_draws = omega (arith, c.args.plan.agrees.1);
       same_cells = omega arith;
-      low_row = cleared_roomy false _ _ _ law c.args.self.now.reel _ _ _ _ _ _ _ (omega arith) (omega arith) (omega arith) c.start.ensures c.sample-first.ensures.moved.low_row c.clear.ensures;
-      high_row = cleared_roomy true _ _ _ law c.args.self.now.reel _ _ _ _ _ _ _ (omega arith) (omega arith) (omega arith) c.start-2.ensures c.sample-first.ensures.moved.high_row c.clear-2.ensures;
+      low_row = cleared_roomy false _ _ _ law c.args.self.reel _ _ _ _ _ _ _ (omega arith) (omega arith) (omega arith) c.start.ensures c.sample-first.ensures.moved.low_row c.clear.ensures;
+      high_row = cleared_roomy true _ _ _ law c.args.self.reel _ _ _ _ _ _ _ (omega arith) (omega arith) (omega arith) c.start-2.ensures c.sample-first.ensures.moved.high_row c.clear-2.ensures;
     }
 
 pub returns : goal.returns
