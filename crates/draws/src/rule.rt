@@ -157,6 +157,14 @@ impl DrawRule for WithReplacement {
         if drawn >= LONGEST || bad_drawn > drawn || bad > reel {
             return NONE;
         }
+        let following = Following {
+            good: reel - bad,
+            bad,
+        };
+        // the tests below are of reels of one kind alone, and a loop over the cells of any other has neither
+        if 0 < bad && bad < reel {
+            return following;
+        }
         // a reel without bad frames gives none, and a reel of bad frames nothing else
         if bad == 0 && bad_drawn > 0 {
             return NONE;
@@ -164,9 +172,6 @@ impl DrawRule for WithReplacement {
         if bad == reel && bad_drawn < drawn {
             return NONE;
         }
-        Following {
-            good: reel - bad,
-            bad,
-        }
+        following
     }
 }

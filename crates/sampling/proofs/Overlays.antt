@@ -49,15 +49,15 @@ cleared_reject accept reject row d gt le = sym (λ i. cond (lt-leb d accept gt i
 pub cleared_kept : (accept reject : ℕ) (row : ℕ → ℕ) (d : ℕ) → accept < d → d < reject → row d ≡ cleared accept reject row d
 cleared_kept accept reject row d gt lt = sym (λ i. cond (lt-leb d accept gt i) 0 (cond (lt-leb reject d lt i) 0 (row d)))
 
--- the first cells up to an accept number and those from a reject number on, filled with nothing
-pub cleared_both : (accept reject i j : ℕ) (old front back : List ℕ) → accept < reject → reject ≤ length old → front ≡ replicate i 0 → i ≡ accept + 1 → back ≡ replicate j 0 → j ≡ length old - reject
-    → put_mid reject (length (front ++ drop (accept + 1) old) - reject) (front ++ drop (accept + 1) old) back ≡ row_of (length old) (cleared accept reject (cells_of old))
-cleared_both accept reject i j old front back apart few e ei f ej =
+-- the first cells up to an accept number and those from a reject number on, filled with nothing, however the code says the two places
+pub cleared_both : (accept reject i j k m : ℕ) (old front back : List ℕ) → accept < reject → reject ≤ length old → k ≡ accept + 1 → m ≡ reject → front ≡ replicate i 0 → i ≡ k → back ≡ replicate j 0 → j ≡ length old - m
+    → put_mid m (length (front ++ drop k old) - m) (front ++ drop k old) back ≡ row_of (length old) (cleared accept reject (cells_of old))
+cleared_both accept reject i j k m old front back apart few ek em e ei f ej =
     row_from (length old) (cleared accept reject (cells_of old)) _ (search (rules, places))
     (λ c lt. ⊎_elim (λ gt. ⊎_elim (λ below. kept c gt below) (λ above. rejects c lt above) (cases_lt c reject)) (accepts c) (cases_lt accept c))
   where
     now : List ℕ
-    now = put_mid reject (length (front ++ drop (accept + 1) old) - reject) (front ++ drop (accept + 1) old) back
+    now = put_mid m (length (front ++ drop k old) - m) (front ++ drop k old) back
 
     accepts : (c : ℕ) → c ≤ accept → cells_of now c ≡ cleared accept reject (cells_of old) c
     accepts c le = let zero_is : cells_of now c ≡ 0 = grind (arith, places) in zero_is ∙ cleared_accept accept reject (cells_of old) c le

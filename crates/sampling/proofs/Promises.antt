@@ -34,13 +34,14 @@ enclosed_given m N D p low high reel few room long =
 pub same_given : {A : Type 0} {x y : A} → ◌≡◌ {A = Answer A} (given x) (given y) → x ≡ y
 same_given e = cc
 
-pub chances : (m : DrawMeaning) → Lawful m → (N D : ℕ) (p : PlanNumbers) (cells : ℕ) (low high low₁ high₁ : List ℕ) (ends : Ends) → no_reel N ≡ false → D ≤ N → Agrees p.n1 p.ac1 p.re1 p.n2 p.ac2 → p.n1 + p.n2 ≤ m.longest N → cells ≡ p.ac2 + 1 → (ltb (length low) cells || ltb (length high) cells) ≡ false
-    → Works m N D p low₁ high₁ ends → Chances m N D p low high (low₁ ++ drop cells low) (high₁ ++ drop cells high) (given ends)
-chances m law N D p cells low high low₁ high₁ ends reel few agrees room e long works =
+-- low₂ and high₂ are the rows as the code leaves them
+pub chances : (m : DrawMeaning) → Lawful m → (N D : ℕ) (p : PlanNumbers) (cells : ℕ) (low high low₁ high₁ low₂ high₂ : List ℕ) (ends : Ends) → no_reel N ≡ false → D ≤ N → Agrees p.n1 p.ac1 p.re1 p.n2 p.ac2 → p.n1 + p.n2 ≤ m.longest N → cells ≡ p.ac2 + 1 → (ltb (length low) cells || ltb (length high) cells) ≡ false
+    → Works m N D p low₁ high₁ ends → low₂ ≡ low₁ ++ drop cells low → high₂ ≡ high₁ ++ drop cells high → Chances m N D p low high low₂ high₂ (given ends)
+chances m law N D p cells low high low₁ high₁ low₂ high₂ ends reel few agrees room e long works low_left high_left =
     record {
       value = ap given works.value ∙ sym (enclosed_given m N D p (length low) (length high) reel few room (ap (λ n. ltb (length low) n || ltb (length high) n) (sym e) ∙ long));
-      low_row = ap (λ n. low₁ ++ drop n low) e ∙ laid_over (p.ac2 + 1) (worked_from0 false m N D (samples_of p)).row low low₁ works.low_row;
-      high_row = ap (λ n. high₁ ++ drop n high) e ∙ laid_over (p.ac2 + 1) (worked_from0 true m N D (samples_of p)).row high high₁ works.high_row;
+      low_row = low_left ∙ ap (λ n. low₁ ++ drop n low) e ∙ laid_over (p.ac2 + 1) (worked_from0 false m N D (samples_of p)).row low low₁ works.low_row;
+      high_row = high_left ∙ ap (λ n. high₁ ++ drop n high) e ∙ laid_over (p.ac2 + 1) (worked_from0 true m N D (samples_of p)).row high high₁ works.high_row;
       encloses = λ other same is_bad e. subst (λ x. Encloses m N is_bad (samples_of p) x.lo x.hi) (sym works.value ∙ same_given same) ((enclosure m law).of_plans N D (reel_from_lem N reel) is_bad e p agrees.3 room);
     }
 
