@@ -161,7 +161,7 @@ impl DrawRule for WithReplacement {
             good: reel - bad,
             bad,
         };
-        // the tests below are of reels of one kind alone, and a loop over the cells of any other has neither
+        // a reel with good and bad frames needs neither test below, and a loop over its cells then has neither
         if 0 < bad && bad < reel {
             return following;
         }

@@ -49,7 +49,7 @@ cleared_reject accept reject row d gt le = sym (λ i. cond (lt-leb d accept gt i
 pub cleared_kept : (accept reject : ℕ) (row : ℕ → ℕ) (d : ℕ) → accept < d → d < reject → row d ≡ cleared accept reject row d
 cleared_kept accept reject row d gt lt = sym (λ i. cond (lt-leb d accept gt i) 0 (cond (lt-leb reject d lt i) 0 (row d)))
 
--- the first cells up to an accept number and those from a reject number on, filled with nothing, however the code says the two places
+-- the first cells up to an accept number and those from a reject number on, filled with nothing; the code cuts the row at k and m
 pub cleared_both : (accept reject i j k m : ℕ) (old front back : List ℕ) → accept < reject → reject ≤ length old → k ≡ accept + 1 → m ≡ reject → front ≡ replicate i 0 → i ≡ k → back ≡ replicate j 0 → j ≡ length old - m
     → put_mid m (length (front ++ drop k old) - m) (front ++ drop k old) back ≡ row_of (length old) (cleared accept reject (cells_of old))
 cleared_both accept reject i j k m old front back apart few ek em e ei f ej =
